@@ -3,20 +3,30 @@
 //! This crate knows of no graph, no file and no query.
 #![tactic(auto)]
 
+mod ascending;
 mod duplicate;
 mod id;
+mod literal;
 mod memory;
 mod name;
 mod numbered;
 mod place;
+mod properties;
 mod sequence;
+mod sets;
 mod text;
+mod walk;
 
+pub use ascending::{Ascending, Item};
 pub use duplicate::Duplicate;
 pub use id::{Id, LARGEST_ID};
+pub use literal::{Literal, literal_cmp};
 pub use memory::Memory;
 pub use name::{Name, NameList};
 pub use numbered::Numbered;
 pub use place::Place;
+pub use properties::{Properties, Property};
 pub use sequence::{Bytes, Sequence};
+pub use sets::{LabelSet, ValueSet};
 pub use text::Str;
+pub use walk::{Cost, Step, StepList, Walk, walk_cmp};
