@@ -12,7 +12,7 @@ use Rattle.gc_base.specs.Ascending.{Ascends}
 use Rattle.gc_base.specs.Places.{IsPlaceOf, IsGapFor, IsPlaceOrGap}
 
 module _ {X : Type 0} (answer : X → Ordering) where
-  abbrev AllGreater : List X → Type 0
+  abbrev pub AllGreater : List X → Type 0
   AllGreater = AllByRecursion (λ x. answer x ≡ Greater)
 
   -- the answers rise along the list: less, then at most one that ties, then greater
@@ -20,11 +20,11 @@ module _ {X : Type 0} (answer : X → Ordering) where
   Rises [] = ⊤
   Rises (x ∷ xs) = MatchOrdering (answer x) (Rises xs) (AllGreater xs) (AllGreater xs)
 
-  greater_kept : (xs : List X) → AllGreater xs → filter (λ x. is_gt (answer x)) xs ≡ xs
+  pub greater_kept : (xs : List X) → AllGreater xs → filter (λ x. is_gt (answer x)) xs ≡ xs
   greater_kept [] h = refl
   greater_kept (x ∷ xs) h = rw h.0 (ap (λ ys. x ∷ ys) (greater_kept xs h.1))
 
-  greater_not_less : (xs : List X) → AllGreater xs → filter (λ x. is_lt (answer x)) xs ≡ []
+  pub greater_not_less : (xs : List X) → AllGreater xs → filter (λ x. is_lt (answer x)) xs ≡ []
   greater_not_less [] h = refl
   greater_not_less (x ∷ xs) h = rw h.0 (greater_not_less xs h.1)
 

@@ -1,5 +1,5 @@
 -- What a builder adds, and what it refuses.
-use Rattle.std.specs.Prelude.{◌≡◌, ℕ, true, ⊤}
+use Rattle.std.specs.Prelude.{◌≡◌, true, ⊤}
 use Rattle.gc_base.specs.Ascending.{with_item}
 use Rattle.gc_spec.specs.PropertyGraph.{PropertyGraph, Node, ids_of, is_among, node_order}
 use Rattle.gc_ppg.specs.declared.builder.BuildRefusal.{BuildRefusal}

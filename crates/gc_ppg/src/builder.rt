@@ -1,10 +1,11 @@
 ghost use Rattle.std.specs.Prelude.{◌≡◌, IfOk, IfErr, OnOk, OnErr};
 ghost use Rattle.gc_spec.specs.PropertyGraph.{empty_graph};
+ghost use Rattle.gc_ppg.specs.declared.builder.BuildRefusal.TheVariants.{Memory as OutOfMemory};
 
 use crate::element::NodeInfo;
 use crate::graph::Graph;
-use gc_base::Id;
-use std::alloc::Global;
+use gc_base::{Id, Memory};
+use std::alloc::{AllocFailed, Global};
 use std::collections::BTreeMap;
 use std::marker::Model;
 
@@ -15,6 +16,14 @@ pub enum BuildRefusal {
     Taken(Id),
     /// Want of memory.
     Memory,
+}
+
+impl<T: Drop> From<AllocFailed<T>> for BuildRefusal {
+    ghost from_gives = { λ _ refusal. refusal ≡ OutOfMemory };
+
+    fn from(_failed: AllocFailed<T>) -> BuildRefusal {
+        BuildRefusal::Memory
+    }
 }
 
 /// A graph under construction. Contracts see it as the graph built so far, which is valid.
@@ -61,9 +70,19 @@ impl GraphBuilder {
             return Err(BuildRefusal::Taken(id));
         }
         node.known();
-        match self.nodes.insert(id, node) {
-            Ok(_) => Ok(()),
-            Err(_) => Err(BuildRefusal::Memory),
+        self.nodes.insert(id, node)?;
+        Ok(())
+    }
+
+    /// The graph of all that was added.
+    pub fn finish(self) -> Result<Graph, Memory>
+        ensures { IfOk result (λ g. g ≡ self) }
+    {
+        let GraphBuilder { alloc, nodes } = self;
+        let mut all = Vec::with_capacity(alloc, nodes.len())?;
+        for node in nodes.into_values() {
+            all.push(node)?;
         }
+        Ok(Graph::of_nodes(all))
     }
 }
