@@ -5,12 +5,12 @@ use Rattle.std.specs.declared.cmp.Ordering.TheVariants.{Less, Equal, Greater}
 use Rattle.std.specs.Ordering.{nat_cmp, is_eq, match_ordering, MatchOrdering, ordering_reverse}
 use Rattle.std.specs.Cmp.{nat_cmp_total, unsigned_tied, nat_eq_equiv, on_total}
 use Rattle.std.specs.FinMap.{nat_cmp-IsAntisymmetric}
-use Rattle.std.specs.List.{AllByRecursion}
+use Rattle.std.specs.List.{AllByRecursion, filter}
 use Rattle.std.specs.Map.{lookup}
 use Rattle.std.specs.BTreeMap.{is_at, insert_entry}
 use Rattle.gc_base.specs.Ascending.{Ascends, with_item}
 use Rattle.gc_base.proofs.Search.{Rises, AllGreater, greater_kept, greater_not_less}
-use Rattle.gc_base.proofs.SetLaws.{Ascends-with_item, AllByRecursion-with_item}
+use Rattle.gc_base.proofs.SetLaws.{Ascends-with_item, AllByRecursion-with_item, Ascends-filter, AllByRecursion-filter}
 use Rattle.gc_spec.specs.PropertyGraph.{Node, IsNode, IsGraph, PropertyGraph, node_order, node_ids, is_among, AreDistinct, ids_of}
 
 -- the key of each entry is its node's identity
@@ -77,6 +77,10 @@ distinct_from_ascends (n ∷ ns) h = (above_others ns n h.0, distinct_from_ascen
 abbrev pub only_nodes : List Node → PropertyGraph
 only_nodes ns = record { nodes = ns; edges = []; paths = [] }
 
+-- the identities of a graph of nodes alone
+pub ids_of-only_nodes : (ns : List Node) → ids_of (only_nodes ns) ≡ node_ids ns
+ids_of-only_nodes ns = append-nil (node_ids ns ++ []) ∙ append-nil (node_ids ns)
+
 pub IsGraph-with_node : (ns : List Node) (n : Node) → IsGraph (only_nodes ns) → IsNode n → IsGraph (only_nodes (with_item node_order ns n))
 IsGraph-with_node ns n h one =
     let up : Ascends node_order (with_item node_order ns n) = Ascends-with_item node_order (on_total (λ m. m.id) nat_cmp_total) ns n h.nodes_ascend in
@@ -84,11 +88,22 @@ IsGraph-with_node ns n h one =
       nodes_ascend = up;
       edges_ascend = tt;
       paths_ascend = tt;
-      distinct = rw (append-nil, append-nil) (distinct_from_ascends _ up);
+      distinct = subst AreDistinct (sym (ids_of-only_nodes (with_item node_order ns n))) (distinct_from_ascends _ up);
       nodes = AllByRecursion-with_item node_order IsNode ns n h.nodes one;
       edges = tt;
       paths = tt;
     }
 
-pub ids_of-only_nodes : (ns : List Node) → ids_of (only_nodes ns) ≡ node_ids ns
-ids_of-only_nodes ns = append-nil (node_ids ns ++ []) ∙ append-nil (node_ids ns)
+-- some of the nodes of a graph are a graph
+pub IsGraph-filter : (p : Node → Bool) (ns : List Node) → IsGraph (only_nodes ns) → IsGraph (only_nodes (filter p ns))
+IsGraph-filter p ns h =
+    let up : Ascends node_order (filter p ns) = Ascends-filter node_order (on_total (λ m. m.id) nat_cmp_total) p ns h.nodes_ascend in
+    record {
+      nodes_ascend = up;
+      edges_ascend = tt;
+      paths_ascend = tt;
+      distinct = subst AreDistinct (sym (ids_of-only_nodes (filter p ns))) (distinct_from_ascends _ up);
+      nodes = AllByRecursion-filter IsNode p ns h.nodes;
+      edges = tt;
+      paths = tt;
+    }

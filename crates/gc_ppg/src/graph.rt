@@ -1,8 +1,10 @@
 ghost use Rattle.std.specs.Prelude.{◌≡◌, ◌+◌, ◌<◌, [], length, slice_get, Some};
+ghost use Rattle.std.specs.List.{filter};
 ghost use Rattle.gc_spec.specs.PropertyGraph.{IsGraph};
+ghost use Rattle.gc_ppg.specs.Labelled.{has_label, nodes_with_label};
 
 use crate::element::NodeInfo;
-use gc_base::Steps;
+use gc_base::{Name, Steps};
 use std::marker::Model;
 use std::sync::ledger::Ledger;
 
@@ -50,4 +52,21 @@ impl Graph {
         steps.tick();
         &self.nodes[i]
     }
+
+    /// The graph of exactly the nodes that have a label, with their labels and properties, and
+    /// without edges and paths. It takes no memory.
+    pub fn labelled(self, label: &Name) -> Graph
+        ensures { result ≡ nodes_with_label self label.now }
+    {
+        let Graph { nodes } = self;
+        Graph::of_nodes(keep_labelled(nodes, label))
+    }
+}
+
+// The nodes that have a label, in their order.
+fn keep_labelled(mut nodes: Vec<NodeInfo>, label: &Name) -> Vec<NodeInfo>
+    ensures { result.items ≡ filter (has_label label.now) nodes.items }
+{
+    nodes.retain(|node| node.labels.contains(label));
+    nodes
 }
