@@ -1,0 +1,103 @@
+ghost use Rattle.std.specs.Prelude.{map, string_bytes, option_map};
+
+use gc_base::{Memory, Name, Sequence, Str, is_reserved};
+use std::alloc::Global;
+
+/// A name and the word of the graph file that it stands for.
+#[derive(Debug, Drop)]
+pub struct Pair {
+    pub name: Name,
+    pub file: Str,
+}
+
+/// Pairs, in the order of the words.
+pub type PairList = Sequence<Pair>;
+
+/// What a command line asks for.
+#[derive(Debug, Drop)]
+pub enum Command {
+    /// Runs a query file on graph files, of which the first is the default graph.
+    Run { query: Str, graphs: PairList },
+}
+
+/// Why words are no command.
+#[derive(Clone, Copy, Debug, PartialEq, Eq)]
+pub enum CommandRefusal {
+    /// They have none of the forms.
+    Usage,
+    /// Want of memory.
+    Memory,
+}
+
+impl From<Memory> for CommandRefusal {
+    ghost use Rattle.std.specs.Prelude.{◌≡◌};
+    ghost use Rattle.gcore.specs.declared.command.CommandRefusal.TheVariants.{Memory as OutOfMemory};
+
+    ghost from_gives = { λ _ refusal. refusal ≡ OutOfMemory };
+
+    fn from(_memory: Memory) -> CommandRefusal {
+        CommandRefusal::Memory
+    }
+}
+
+impl Command {
+    ghost use Rattle.gcore.specs.CommandLines.{IsCommand};
+
+    /// The command of the words after the program's name, or `Usage` exactly where they have none
+    /// of the forms.
+    pub fn of(alloc: Global, words: &[String]) -> Result<Command, CommandRefusal>
+        ensures { IsCommand (map string_bytes words.now) result }
+    {
+        if words.len() != 3 {
+            return Err(CommandRefusal::Usage);
+        }
+        if words[0].as_str() != "run" {
+            return Err(CommandRefusal::Usage);
+        }
+        Command::run_of(alloc, words[1].as_str(), words[2].as_str())
+    }
+
+    ghost use Rattle.gcore.specs.CommandLines.{IsRun};
+
+    // `run Q N=F`.
+    fn run_of(alloc: Global, query: &str, pair: &str) -> Result<Command, CommandRefusal>
+        ensures { IsRun query.now pair.now result }
+    {
+        if query.is_empty() {
+            return Err(CommandRefusal::Usage);
+        }
+        let pair = Pair::of(alloc, pair)?;
+        let query = Str::of(alloc, query)?;
+        let mut graphs = PairList::new(alloc);
+        graphs.push(pair)?;
+        Ok(Command::Run { query, graphs })
+    }
+}
+
+impl Pair {
+    ghost use Rattle.gcore.specs.CommandLines.{IsPair, IsNamedFile};
+
+    /// The pair of a word, which is split at its first `=`.
+    fn of(alloc: Global, word: &str) -> Result<Pair, CommandRefusal>
+        ensures { IsPair word.now result }
+    {
+        match word.split_once('=') {
+            None => Err(CommandRefusal::Usage),
+            Some((name, file)) => Pair::named(alloc, name, file),
+        }
+    }
+
+    // The pair of a name and a file's word.
+    fn named(alloc: Global, name: &str, file: &str) -> Result<Pair, CommandRefusal>
+        ensures { IsNamedFile name.now file.now result }
+    {
+        let Some(name) = Name::of(alloc, name.as_bytes())? else {
+            return Err(CommandRefusal::Usage);
+        };
+        if is_reserved(&name) || file.is_empty() {
+            return Err(CommandRefusal::Usage);
+        }
+        let file = Str::of(alloc, file)?;
+        Ok(Pair { name, file })
+    }
+}
