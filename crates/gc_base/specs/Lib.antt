@@ -1,1 +1,4 @@
+pub mod Faults
+pub mod Files
+pub mod Sinks
 pub mod Words
