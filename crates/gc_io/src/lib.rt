@@ -21,4 +21,4 @@ pub use read::read_whole;
 pub use refusal::ReadRefusal;
 pub use sink::{Sink, SinkFault};
 pub use sure_sink::SureSink;
-pub use write::write_whole;
+pub use write::{write_pieces, write_whole};
