@@ -12,7 +12,7 @@ append_known-nil (Some xs) = ap (λ ys. Some ys) (append-nil xs)
 
 -- some bytes, and then others
 pub append_known-append : (known : Option (List ℕ)) (xs ys : List ℕ)
-  → append_known (append_known known xs) ys ≡ append_known known (xs ++ ys)
+    → append_known (append_known known xs) ys ≡ append_known known (xs ++ ys)
 append_known-append None xs ys = refl
 append_known-append (Some known) xs ys = ap (λ zs. Some zs) (append_assoc known xs ys)
 

@@ -22,9 +22,9 @@ pub record FolderState : Type 0 where
 -- one call more, which counts as a fault exactly where its number is listed
 abbrev pub after_read : FolderState → FolderState
 after_read state = record state {
-    calls = one_more state.calls;
-    faults = if is_failing state.failing state.calls then one_more state.faults else state.faults
-  }
+  calls = one_more state.calls;
+  faults = if is_failing state.failing state.calls then one_more state.faults else state.faults;
+}
 
 -- a read gives as many bytes as the file has from the place on and the buffer has room for
 abbrev pub read_count : Option (List ℕ) → ℕ → ℕ → Result ℕ FolderFault

@@ -8,6 +8,8 @@ mod folder;
 mod memory_folder;
 mod memory_sink;
 mod read;
+mod real_folder;
+mod real_sink;
 mod refusal;
 mod sink;
 mod sure_sink;
@@ -18,7 +20,12 @@ pub use folder::{Folder, FolderFault};
 pub use memory_folder::{MemoryFolder, SureFolder};
 pub use memory_sink::MemorySink;
 pub use read::read_whole;
+pub use real_folder::RealFolder;
+pub use real_sink::RealSink;
 pub use refusal::ReadRefusal;
 pub use sink::{Sink, SinkFault};
 pub use sure_sink::SureSink;
 pub use write::{write_pieces, write_whole};
+
+#[cfg(test)]
+mod tests;

@@ -9,8 +9,11 @@ use crate::refusal::ReadRefusal;
 use gc_base::Bytes;
 use std::alloc::Global;
 
-/// How many bytes a read asks for.
-const PIECE: usize = 65536;
+/// How many bytes a read asks for at least.
+const LEAST_PIECE: usize = 65536;
+
+/// How many bytes a read asks for at most.
+const LARGEST_PIECE: usize = 1048576;
 
 /// Reads a file whole, at most `limit` bytes of it.
 pub fn read_whole<F: Folder>(
@@ -32,7 +35,8 @@ pub fn read_whole<F: Folder>(
     Err(ReadRefusal::TooLarge)
 }
 
-/// Adds the next piece of a file, and answers whether there was one.
+/// Adds the next piece of a file, and answers whether there was one. It asks for as many bytes as
+/// were read so far, within bounds, and reads them straight into the vector.
 fn read_piece<F: Folder>(
     folder: &mut F,
     name: &str,
@@ -44,7 +48,8 @@ fn read_piece<F: Folder>(
     ensures kept { F.files folder.new ≡ F.files folder.old }
 {
     let start = bytes.len();
-    bytes.resize(start + PIECE, 0)?;
+    let piece = start.max(LEAST_PIECE).min(LARGEST_PIECE);
+    bytes.resize(start + piece, 0)?;
     let count = read_behind(folder, name, start, bytes)?;
     bytes.truncate(start + count);
     Ok(count > 0)
