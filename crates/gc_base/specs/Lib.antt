@@ -1,7 +1,10 @@
 pub mod Ascending
+pub mod Faults
+pub mod Files
 pub mod LiteralLaws
 pub mod Literals
 pub mod Places
 pub mod PropertyLists
+pub mod Sinks
 pub mod Walks
 pub mod Words

@@ -1,0 +1,3 @@
+pub mod ReadPieces
+pub mod SinkLaws
+pub mod WriteTurns
