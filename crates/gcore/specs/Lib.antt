@@ -1,2 +1,5 @@
 pub mod CommandLines
+pub mod Endings
+pub mod Lines
+pub mod Outcomes
 pub mod ThinQueries

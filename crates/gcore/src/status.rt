@@ -1,0 +1,25 @@
+/// How a call of the program ends. The number of each is the exit status.
+#[derive(Clone, Copy, Debug, PartialEq, Eq)]
+pub enum Status {
+    /// The input was read to its end, and the whole output was taken.
+    Done = 0,
+    /// The words have none of the forms.
+    Usage = 2,
+    /// A named file can't be read.
+    Read = 6,
+    /// The output failed.
+    Write = 7,
+    /// Want of memory.
+    Memory = 8,
+    /// A named file is larger than its limit.
+    Size = 10,
+    /// What is asked for is not built yet.
+    NotBuilt = 11,
+}
+
+impl Status {
+    /// The exit status.
+    pub fn code(self) -> u8 {
+        self as u8
+    }
+}

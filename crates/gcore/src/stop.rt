@@ -1,0 +1,76 @@
+ghost use Rattle.std.specs.Prelude.{◌≡◌};
+ghost use Rattle.gcore.specs.Lines.{line_of, status_of};
+
+use crate::command::CommandRefusal;
+use crate::status::Status;
+use gc_base::{Memory, Str};
+use gc_io::SinkFault;
+
+/// Why a call ends without being done, with the word of the file that it is about.
+#[derive(Debug, Drop)]
+pub enum Stop {
+    /// The words have none of the forms.
+    Usage,
+    /// A file can't be read.
+    Unread(Str),
+    /// A file is larger than its limit.
+    TooLarge(Str),
+    /// What is asked for is not built yet.
+    NotBuilt,
+    /// The output failed.
+    Unwritten,
+    /// Want of memory.
+    OutOfMemory,
+}
+
+impl Stop {
+    /// The status of the call.
+    pub fn status(&self) -> Status
+        ensures { result ≡ status_of self.now }
+    {
+        match self {
+            Stop::Usage => Status::Usage,
+            Stop::Unread(_) => Status::Read,
+            Stop::TooLarge(_) => Status::Size,
+            Stop::NotBuilt => Status::NotBuilt,
+            Stop::Unwritten => Status::Write,
+            Stop::OutOfMemory => Status::Memory,
+        }
+    }
+}
+
+impl From<Memory> for Stop {
+    ghost use Rattle.std.specs.Prelude.{◌≡◌};
+    ghost use Rattle.gcore.specs.declared.stop.Stop.TheVariants.{OutOfMemory};
+
+    ghost from_gives = { λ _ stop. stop ≡ OutOfMemory };
+
+    fn from(_memory: Memory) -> Stop {
+        Stop::OutOfMemory
+    }
+}
+
+impl From<SinkFault> for Stop {
+    ghost use Rattle.std.specs.Prelude.{◌≡◌};
+    ghost use Rattle.gcore.specs.declared.stop.Stop.TheVariants.{Unwritten};
+
+    ghost from_gives = { λ _ stop. stop ≡ Unwritten };
+
+    fn from(_fault: SinkFault) -> Stop {
+        Stop::Unwritten
+    }
+}
+
+impl From<CommandRefusal> for Stop {
+    ghost use Rattle.std.specs.Prelude.{◌≡◌};
+    ghost use Rattle.gcore.specs.Outcomes.{stop_of_command};
+
+    ghost from_gives = { λ refusal stop. stop ≡ stop_of_command refusal };
+
+    fn from(refusal: CommandRefusal) -> Stop {
+        match refusal {
+            CommandRefusal::Usage => Stop::Usage,
+            CommandRefusal::Memory => Stop::OutOfMemory,
+        }
+    }
+}
