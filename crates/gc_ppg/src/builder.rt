@@ -1,5 +1,5 @@
-ghost use Rattle.std.specs.Prelude.{◌≡◌, IfOk, IfErr, OnOk, OnErr};
-ghost use Rattle.gc_spec.specs.PropertyGraph.{empty_graph};
+ghost use Rattle.std.specs.Prelude.{◌≡◌, false, IfOk, IfErr, OnOk, OnErr};
+ghost use Rattle.gc_spec.specs.PropertyGraph.{empty_graph, ids_of, is_among};
 ghost use Rattle.gc_ppg.specs.declared.builder.BuildRefusal.TheVariants.{Memory as OutOfMemory};
 
 use crate::element::NodeInfo;
@@ -61,6 +61,7 @@ impl GraphBuilder {
 
     /// Adds a node. It is refused as `Taken` exactly where its identity is in the builder.
     pub fn add_node(&mut self, node: NodeInfo) -> Result<(), BuildRefusal>
+        ensures fresh { OnOk result (is_among (ids_of self.old) node.id ≡ false) }
         ensures added { OnOk result (self.new ≡ with_node self.old node) }
         ensures refused { IfErr result (IsNodeRefusal self.old node) }
         ensures same { OnErr result (self.new ≡ self.old) }

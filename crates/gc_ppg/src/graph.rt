@@ -35,10 +35,11 @@ impl Graph {
         Graph { nodes }
     }
 
-    /// How many nodes there are.
+    /// How many nodes there are. A graph has no edges and no paths yet.
     pub fn node_count(&self) -> usize
         ensures count { result ≡ length self.now.nodes }
         ensures valid { IsGraph self.now }
+        ensures alone { (self.now.edges ≡ []) × (self.now.paths ≡ []) }
     {
         self.nodes.len()
     }

@@ -1,7 +1,8 @@
-use Rattle.std.proofs.Common.{◌≡◌, ℕ, true, List, sym, ap, subst, ◌∙◌}
+use Rattle.std.proofs.Common.{◌≡◌, ℕ, Bool, true, false, List, is_some, sym, ap, subst, ◌∙◌}
+use Rattle.std.specs.Map.{lookup}
 use Rattle.std.specs.Ordering.{nat_cmp}
 use Rattle.std.specs.Cmp.{nat_cmp_total}
-use Rattle.std.specs.BTreeMap.{insert_entry}
+use Rattle.std.specs.BTreeMap.{insert_entry, is_at}
 use Rattle.gc_base.specs.Ascending.{with_item}
 use Rattle.gc_base.proofs.Search.{rises}
 use Rattle.gc_spec.specs.PropertyGraph.{Node, PropertyGraph, IsGraph, ids_of, is_among, node_order}
@@ -9,17 +10,24 @@ use Rattle.gc_ppg.specs.Built.{with_node}
 use Rattle.gc_ppg.proofs.NodeLists.{KeysAreIds, nodes_in, only_nodes, found-is_among, nodes_in-insert_entry, KeysAreIds-insert_entry, IsGraph-with_node, ids_of-only_nodes}
 use Rattle.gc_ppg.proofs.builder.GraphBuilder.add_node.Goals as goal
 
+-- the map's test is whether the identity is among those of the graph
+tested : (es : List (ℕ × Node)) (g : PropertyGraph) (n : Node) (k : ℕ) (b : Bool) → KeysAreIds es → only_nodes (nodes_in es) ≡ g → k ≡ n.id
+    → b ≡ is_some (lookup (is_at (nat_cmp k)) es) → is_among (ids_of g) n.id ≡ b
+tested es g n k b keys same_graph same_id is =
+    subst (λ (h : PropertyGraph). is_among (ids_of h) n.id ≡ b) same_graph
+    (subst (λ (i : ℕ). is_among (ids_of (only_nodes (nodes_in es))) i ≡ b) same_id
+    (ap (λ ids. is_among ids k) (ids_of-only_nodes (nodes_in es)) ∙ (sym (found-is_among es k keys) ∙ sym is)))
+
 pub returns-then-contains_key-clause-refused : goal.returns-then-contains_key-clause-refused
 returns-then-contains_key-clause-refused c =
-    let es = c.self.inside.nodes.entries in
-    let same_id : c.node.inside.id ≡ c.args.node.id = ap (λ (m : Node). m.id) c.node.view_is in
-    let found : is_among (ids_of (only_nodes (nodes_in es))) c.node.inside.id ≡ true =
-    ap (λ ids. is_among ids c.node.inside.id) (ids_of-only_nodes (nodes_in es))
-    ∙ (sym (found-is_among es c.node.inside.id c.self.invariant.1) ∙ (sym c.contains_key.ensures ∙ c.if-contains_key.true)) in (
+    let same_id : c.node.inside.id ≡ c.args.node.id = ap (λ (m : Node). m.id) c.node.view_is in (
       same_id,
-      subst (λ (g : PropertyGraph). is_among (ids_of g) c.args.node.id ≡ true) c.self.view_is
-          (subst (λ (k : ℕ). is_among (ids_of (only_nodes (nodes_in es))) k ≡ true) same_id found),
+      tested c.self.inside.nodes.entries c.args.self.now c.args.node c.node.inside.id true c.self.invariant.1 c.self.view_is same_id (sym c.if-contains_key.true ∙ c.contains_key.ensures),
     )
+
+pub returns-clause-fresh : goal.returns-clause-fresh
+returns-clause-fresh c =
+    tested c.self.inside.nodes.entries c.args.self.now c.args.node c.node.inside.id false c.self.invariant.1 c.self.view_is (ap (λ (m : Node). m.id) c.node.view_is) (sym c.if-contains_key.false ∙ c.contains_key.ensures)
 
 -- the entries and the nodes after the insertion
 record Grown (es new : List (ℕ × Node)) (n : Node) : Type 0 where
