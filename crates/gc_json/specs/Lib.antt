@@ -1,0 +1,4 @@
+pub mod CanonicalText
+pub mod Refusals
+pub mod ThinFiles
+pub mod Writing
