@@ -39,6 +39,10 @@ abbrev pub command_of : List (List ℕ) → Option Command
 command_of (verb ∷ query ∷ pair ∷ []) = if pointwise nat_eq verb (codes "run") then run_of query pair else None
 command_of words = None
 
+-- a command has one graph file
+abbrev pub HasOneGraph : Command → Type 0
+HasOneGraph (Run query graphs) = length graphs ≡ 1
+
 -- what is due, or `Usage` exactly where nothing is; want of memory is free
 abbrev pub Answers : {X : Type 0} → Option X → Result X CommandRefusal → Type 0
 Answers due (Ok x) = due ≡ Some x
