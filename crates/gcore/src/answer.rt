@@ -28,8 +28,9 @@ pub fn run<F: Folder, S: Sink, L: Ledger>(
     ensures outcome { Answers (record { command = Some command.now; files = F.files folder.old; faults_before = F.faults folder.old; faults_after = F.faults folder.new; out = record { faults_before = S.faults out.old; faults_after = S.faults out.new; taken_before = S.taken out.old; taken_after = S.taken out.new } }) result }
     ensures kept { F.files folder.new ≡ F.files folder.old }
 {
-    let Command::Run { query, graphs } = command;
-    run_on(alloc, query, graphs.at(0), folder, out, steps)
+    let query = command.query();
+    let pair = command.graphs().at(0);
+    run_on(alloc, query, pair, folder, out, steps)
 }
 
 fn run_on<F: Folder, S: Sink, L: Ledger>(

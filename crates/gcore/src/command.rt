@@ -58,6 +58,27 @@ impl Command {
         Command::run_of(alloc, words[1].as_str(), words[2].as_str())
     }
 
+    ghost use Rattle.std.specs.Prelude.{◌≡◌};
+    ghost use Rattle.gcore.specs.CommandLines.{query_of, graphs_of};
+
+    /// The word of the query file.
+    pub fn query(&self) -> &Str
+        ensures { result.now ≡ query_of self.now }
+    {
+        match self {
+            Command::Run { query, graphs: _ } => query,
+        }
+    }
+
+    /// The graph files, in the order of the words.
+    pub fn graphs(&self) -> &PairList
+        ensures { result.now ≡ graphs_of self.now }
+    {
+        match self {
+            Command::Run { query: _, graphs } => graphs,
+        }
+    }
+
     ghost use Rattle.gcore.specs.CommandLines.{IsRun};
 
     // `run Q N=F`.

@@ -1,4 +1,4 @@
-use Rattle.std.proofs.Common.{◌≡◌, ◌∷◌, ◌++◌, [], ap, sym, ◌∙◌}
+use Rattle.std.proofs.Common.{◌∷◌, ◌++◌, [], ap, ◌∙◌}
 use Rattle.gc_json.specs.CanonicalText.{canonical_text}
 use Rattle.gcore.specs.Outcomes.{printed}
 use Rattle.gcore.proofs.answer.print_labelled.Goals as goal

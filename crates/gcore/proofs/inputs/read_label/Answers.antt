@@ -1,4 +1,4 @@
-use Rattle.std.proofs.Common.{◌≡◌, ℕ, List, Option, None, Some, Result, Ok, Err, ap, sym, ◌∙◌, subst, IfSome}
+use Rattle.std.proofs.Common.{◌≡◌, ℕ, List, Option, None, Some, Result, Ok, Err, ap, ◌∙◌, subst, IfSome}
 use Rattle.gc_base.specs.Files.{Files}
 use Rattle.gcore.specs.Outcomes.{then_due, built, file_due, label_due, query_limit}
 use Rattle.gcore.specs.Steps.{Builds, Reads}
@@ -26,4 +26,4 @@ read_built told before after name bytes (Err Unwritten) f h = absurd h
 pub returns-clause-outcome : goal.returns-clause-outcome
 returns-clause-outcome g c =
     read_built (g.F.Folder.files c.args.folder.now) (g.F.Folder.faults c.args.folder.now) (g.F.Folder.faults c.read_file.new.folder) c.args.name.now c.in_ok-bytes.bytes c.label_in.result
-      c.in_ok-bytes.ensures.outcome (subst (λ (bytes : List ℕ). Builds (thin_label bytes) c.label_in.result) c.as_slice.ensures c.label_in.ensures)
+    c.in_ok-bytes.ensures.outcome (subst (λ (bytes : List ℕ). Builds (thin_label bytes) c.label_in.result) c.as_slice.ensures c.label_in.ensures)

@@ -1,4 +1,5 @@
 use Rattle.std.proofs.Common.{◌≡◌, ℕ, List, ◌++◌, sym, subst, ◌∙◌}
+use Rattle.std.specs.Prelude.{codes}
 use Rattle.gcore.specs.Lines.{line, line_of}
 use Rattle.gcore.specs.Endings.{Change, Tells}
 use Rattle.gcore.specs.declared.stop.Stop.{Stop}
@@ -15,12 +16,12 @@ of_file change message text file e h = subst (λ xs. Tells change (line (message
 
 pub returns-in-Unread : goal.returns-in-Unread
 returns-in-Unread g c =
-    told _ c.args.stop.now (Unread c.in-Unread.file) c.in-Unread.is (of_file _ _ _ c.in-Unread.file (c.as_bytes.ensures.value ∙ c.text.ensures) c.tell_line-in-Unread.ensures)
+    told _ c.args.stop.now (Unread c.in-Unread.file) c.in-Unread.is (of_file _ (codes "cannot read ") _ c.in-Unread.file (c.as_bytes.ensures.value ∙ c.text.ensures) c.tell_line-in-Unread.ensures)
 
 pub returns-in-TooLarge : goal.returns-in-TooLarge
 returns-in-TooLarge g c =
     told _ c.args.stop.now (TooLarge c.in-TooLarge.file) c.in-TooLarge.is
-      (of_file _ _ _ c.in-TooLarge.file (c.as_bytes-in-TooLarge.ensures.value ∙ c.text-in-TooLarge.ensures) c.tell_line-in-TooLarge.ensures)
+    (of_file _ (codes "too large ") _ c.in-TooLarge.file (c.as_bytes-in-TooLarge.ensures.value ∙ c.text-in-TooLarge.ensures) c.tell_line-in-TooLarge.ensures)
 
 pub returns-in-NotBuilt : goal.returns-in-NotBuilt
 returns-in-NotBuilt g c = told _ c.args.stop.now NotBuilt c.in-NotBuilt.is c.tell_line-in-NotBuilt.ensures
