@@ -1,0 +1,6 @@
+pub mod Characters
+pub mod Contents
+pub mod Items
+pub mod Lexis
+pub mod Places
+pub mod Symbols

@@ -1,0 +1,28 @@
+ghost use Rattle.std.specs.Prelude.{◌≡◌};
+ghost use Rattle.std.specs.Char.{is_ascii_digit};
+ghost use Rattle.std.specs.List.{prefix_len, position_or_len};
+ghost use Rattle.gc_base.specs.Words.{is_word_part};
+ghost use Rattle.gc_lex.specs.Characters.{is_line_feed};
+
+/// How many bytes of a word a text begins with.
+pub fn word_length(text: &[u8]) -> usize
+    ensures { result ≡ prefix_len is_word_part text.now }
+{
+    text.iter()
+        .take_while(|byte| byte.is_ascii_alphanumeric() || **byte == b'_')
+        .count()
+}
+
+/// How many digits a text begins with.
+pub fn number_length(text: &[u8]) -> usize
+    ensures { result ≡ prefix_len is_ascii_digit text.now }
+{
+    text.iter().take_while(|byte| byte.is_ascii_digit()).count()
+}
+
+/// How many bytes stand before the first line feed.
+pub fn line_length(text: &[u8]) -> usize
+    ensures { result ≡ position_or_len is_line_feed text.now }
+{
+    text.iter().take_while(|byte| **byte != b'\n').count()
+}

@@ -1,0 +1,15 @@
+//! Tokens of query files. Others rely on `lex` alone, which gives exactly the tokens of a text with
+//! their places, or exactly its first refusal. This crate knows of no grammar.
+#![tactic(auto)]
+
+mod fronts;
+mod item;
+mod numbers;
+mod places;
+mod refusal;
+mod symbols;
+mod token;
+mod words;
+
+pub use refusal::LexRefusal;
+pub use token::{Mark, Token};
