@@ -1,5 +1,5 @@
 -- What stands between the quotes of a text.
-use Rattle.std.specs.Prelude.{ℕ, ◌+◌, List, [], ◌∷◌, ◌==◌, if◌then◌else◌, Option, Some, None}
+use Rattle.std.specs.Prelude.{ℕ, ◌+◌, List, [], ◌∷◌, Bool, not, ◌&&◌, ◌==◌, if◌then◌else◌, Option, Some, None}
 use Rattle.gc_lex.specs.Characters.{is_backslash}
 
 -- how the bytes after an opening quote go on
@@ -37,3 +37,7 @@ body_of quote (c ∷ d ∷ rest) =
     if c == quote then Closed [] 1
     else (if is_backslash c then escape_before (escape_of d) (body_of quote rest)
     else byte_before c 1 (body_of quote (d ∷ rest)))
+
+-- a byte that stands for itself
+abbrev pub is_plain : ℕ → ℕ → Bool
+is_plain quote c = not (c == quote) && not (is_backslash c)

@@ -3,4 +3,5 @@ pub mod Contents
 pub mod Items
 pub mod Lexis
 pub mod Places
+pub mod Stops
 pub mod Symbols

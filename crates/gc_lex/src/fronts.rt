@@ -1,8 +1,9 @@
-ghost use Rattle.std.specs.Prelude.{◌≡◌};
+ghost use Rattle.std.specs.Prelude.{◌≡◌, ◌≤◌, length};
 ghost use Rattle.std.specs.Char.{is_ascii_digit};
 ghost use Rattle.std.specs.List.{prefix_len, position_or_len};
 ghost use Rattle.gc_base.specs.Words.{is_word_part};
 ghost use Rattle.gc_lex.specs.Characters.{is_line_feed};
+ghost use Rattle.gc_lex.specs.Contents.{is_plain};
 
 /// How many bytes of a word a text begins with.
 pub fn word_length(text: &[u8]) -> usize
@@ -25,4 +26,14 @@ pub fn line_length(text: &[u8]) -> usize
     ensures { result ≡ position_or_len is_line_feed text.now }
 {
     text.iter().take_while(|byte| **byte != b'\n').count()
+}
+
+/// How many bytes that stand for themselves a text begins with, up to a quote or a backslash.
+pub fn plain_length(text: &[u8], quote: u8) -> usize
+    ensures length { result ≡ prefix_len (is_plain quote) text.now }
+    ensures within { result ≤ length text.now }
+{
+    text.iter()
+        .take_while(|byte| **byte != quote && **byte != b'\\')
+        .count()
 }

@@ -8,6 +8,7 @@ mod numbers;
 mod places;
 mod refusal;
 mod symbols;
+mod texts;
 mod token;
 mod words;
 
