@@ -1,5 +1,5 @@
 -- What stands first in a text, by cases on its first character.
-use Rattle.std.specs.Prelude.{ℕ, ◌+◌, List, [], ◌∷◌, length, pos, nat_le, if◌then◌else◌, Option, Some, None, take_while}
+use Rattle.std.specs.Prelude.{◌≡◌, ℕ, ◌+◌, ◌<◌, ◌≤◌, drop, List, [], ◌∷◌, length, pos, nat_le, if◌then◌else◌, Option, Some, None, take_while}
 use Rattle.std.specs.Char.{is_ascii_alphabetic, is_ascii_digit}
 use Rattle.std.specs.List.{before_first}
 use Rattle.std.specs.Str.Parse.{digits_value}
@@ -34,14 +34,27 @@ abbrev pub symbol_item : Option (List ℕ × Mark) → Item
 symbol_item None = BadCharacter 0
 symbol_item (Some entry) = Spelled (Symbol entry.1) (length entry.0)
 
--- one separator; a comment, which goes to the line feed or the end; or the longest word, number,
--- text or symbol, as its first character says
-unfoldable pub first_item : List ℕ → Item
-first_item [] = End
-first_item (c ∷ cs) =
+-- what stands first in a text that begins with this character: one separator; a comment, which goes
+-- to the line feed or the end; or the longest word, number, text or symbol
+abbrev pub item_of : ℕ → List ℕ → Item
+item_of c text =
     if is_separator c then Gap 1
-    else (if is_hash c then Gap (length (before_first is_line_feed (c ∷ cs)))
-    else (if is_ascii_alphabetic c then word_item (take_while is_word_part (c ∷ cs))
-    else (if is_ascii_digit c then number_item (take_while is_ascii_digit (c ∷ cs))
-    else (if is_quote c then text_item (body_of c cs)
-    else symbol_item (entry_of symbols (c ∷ cs))))))
+    else (if is_hash c then Gap (length (before_first is_line_feed text))
+    else (if is_ascii_alphabetic c then word_item (take_while is_word_part text)
+    else (if is_ascii_digit c then number_item (take_while is_ascii_digit text)
+    else (if is_quote c then text_item (body_of c (drop 1 text))
+    else symbol_item (entry_of symbols text)))))
+
+-- what stands first in a text
+abbrev pub first_item : List ℕ → Item
+first_item [] = End
+first_item (c ∷ cs) = item_of c (c ∷ cs)
+
+-- an item takes at least one of the bytes, and no more than there are
+abbrev pub IsItemIn : List ℕ → Item → Type 0
+IsItemIn text End = text ≡ []
+IsItemIn text (Gap n) = (0 < n) × (n ≤ length text)
+IsItemIn text (Spelled token n) = (0 < n) × (n ≤ length text)
+IsItemIn text (BadCharacter n) = n < length text
+IsItemIn text OpenText = 0 < length text
+IsItemIn text NumberTooLarge = 0 < length text

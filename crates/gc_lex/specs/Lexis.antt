@@ -47,7 +47,7 @@ lexed text =
     if is_utf8 text then tokens_within (length text) text 0
     else Err (NotUtf8 (place_at text (utf8_valid_len text)))
 
--- a refusal is due to the text; want of memory may be told of any
-abbrev pub IsDue : List ℕ → LexRefusal → Type 0
-IsDue text Memory = Unit {0}
-IsDue text refusal = lexed text ≡ Err refusal
+-- a refusal is the one that is due; want of memory may be told at any time
+abbrev pub IsDue : Result TokenList LexRefusal → LexRefusal → Type 0
+IsDue due Memory = Unit {0}
+IsDue due refusal = due ≡ Err refusal

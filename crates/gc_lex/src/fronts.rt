@@ -16,14 +16,16 @@ pub fn word_length(text: &[u8]) -> usize
 
 /// How many digits a text begins with.
 pub fn number_length(text: &[u8]) -> usize
-    ensures { result ≡ prefix_len is_ascii_digit text.now }
+    ensures length { result ≡ prefix_len is_ascii_digit text.now }
+    ensures within { result ≤ length text.now }
 {
     text.iter().take_while(|byte| byte.is_ascii_digit()).count()
 }
 
 /// How many bytes stand before the first line feed.
 pub fn line_length(text: &[u8]) -> usize
-    ensures { result ≡ position_or_len is_line_feed text.now }
+    ensures length { result ≡ position_or_len is_line_feed text.now }
+    ensures within { result ≤ length text.now }
 {
     text.iter().take_while(|byte| **byte != b'\n').count()
 }

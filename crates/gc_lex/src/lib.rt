@@ -4,13 +4,18 @@
 
 mod fronts;
 mod item;
+mod items;
+mod lexer;
 mod numbers;
 mod places;
 mod refusal;
 mod symbols;
 mod texts;
 mod token;
+mod tokens;
 mod words;
 
+pub use lexer::lex;
 pub use refusal::LexRefusal;
 pub use token::{Mark, Token};
+pub use tokens::Tokens;

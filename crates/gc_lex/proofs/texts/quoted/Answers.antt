@@ -17,8 +17,8 @@ pieces-init c = record {
     said = run_start _ _ _ c.new-contents.ensures.bytes (omega arith);
   }
 
-pub returns-in-Quote : goal.returns-in-Quote
-returns-in-Quote c =
+pub returns-in-Quote-clause-item : goal.returns-in-Quote-clause-item
+returns-in-Quote-clause-item c =
     let n = c.in-Quote.n in
     let rest = drop c.pieces.at c.args.text.now in
     let is : c.as_bytes.result.now ≡ rest = c.as_bytes.ensures.value ∙ c.range_from-rest.ensures.value in
