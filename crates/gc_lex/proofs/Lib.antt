@@ -1,3 +1,4 @@
 pub mod Bodies
 pub mod WordFronts
 pub mod Digits
+pub mod Progress
