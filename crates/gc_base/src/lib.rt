@@ -3,20 +3,36 @@
 //! This crate knows of no graph, no file and no query.
 #![tactic(auto)]
 
+mod ascending;
 mod duplicate;
+mod fault;
 mod id;
+mod literal;
 mod memory;
 mod name;
 mod numbered;
 mod place;
+mod properties;
 mod sequence;
+mod sets;
+mod steps;
 mod text;
+mod walk;
 
+pub use ascending::{Ascending, Item};
 pub use duplicate::Duplicate;
+pub use fault::EvalFault;
 pub use id::{Id, LARGEST_ID};
+pub use literal::{Literal, literal_cmp};
 pub use memory::Memory;
-pub use name::{Name, NameList};
+pub use name::{Name, NameList, is_reserved, is_word_form};
 pub use numbered::Numbered;
-pub use place::Place;
+pub use place::{
+    BasicNo, BlockNo, Direction, LabelGroupList, MakeKind, NameAt, Place, Sym, ViewNo,
+};
+pub use properties::{Properties, Property};
 pub use sequence::{Bytes, Sequence};
+pub use sets::{LabelSet, ValueSet};
+pub use steps::Steps;
 pub use text::Str;
+pub use walk::{Cost, Step, StepList, Walk, walk_cmp};

@@ -1,10 +1,10 @@
-ghost use Rattle.std.specs.Prelude.{◌≡◌, false, true, nat_eq, Some, refl, IfOk, slice_range, drop, length, ◌<◌};
+ghost use Rattle.std.specs.Prelude.{◌≡◌, map, false, true, nat_eq, Some, refl, IfOk, slice_range, drop, length, ◌<◌};
 ghost use Rattle.std.specs.Ordering.{nat_cmp};
-ghost use Rattle.std.specs.List.{list_all};
+ghost use Rattle.std.specs.List.{list_all, list_any};
 ghost use Rattle.std.specs.Cmp.Lexicographic.{pointwise, slice_cmp, nat_list_eq_equiv, nat_list_cmp_total, texts_ties, texts_po};
 ghost use Rattle.std.specs.Cmp.{partial_equiv_from_equiv};
 ghost use Rattle.std.specs.Option.{SomeIff};
-ghost use Rattle.gc_base.specs.Words.{is_word, is_word_part, is_reserved};
+ghost use Rattle.gc_base.specs.Words.{is_word, is_word_part, is_reserved as is_reserved_word};
 
 use crate::duplicate::Duplicate;
 use crate::memory::Memory;
@@ -116,4 +116,61 @@ impl Ord for Name {
     fn cmp(&self, other: &Name) -> Ordering {
         self.bytes().cmp(other.bytes())
     }
+}
+
+/// The words that are no names, though they may be labels and property names.
+const RESERVED: [&str; 35] = [
+    "ALL",
+    "AND",
+    "AS",
+    "COLLECT",
+    "CONSTRUCT",
+    "COST",
+    "COUNT",
+    "EXISTS",
+    "FALSE",
+    "GRAPH",
+    "GROUP",
+    "IN",
+    "INTERSECT",
+    "MATCH",
+    "MAX",
+    "MIN",
+    "MINUS",
+    "NOT",
+    "ON",
+    "OPTIONAL",
+    "OR",
+    "PATH",
+    "REMOVE",
+    "SET",
+    "SHORTEST",
+    "SUBSET",
+    "SUM",
+    "TRUE",
+    "UNION",
+    "VIEW",
+    "WHEN",
+    "WHERE",
+    "edges",
+    "length",
+    "nodes",
+];
+
+/// Whether a word is reserved.
+pub fn is_reserved(word: &Name) -> bool
+    ensures { result ≡ is_reserved_word word.now }
+{
+    is_among(word.bytes(), &RESERVED)
+}
+
+fn is_among(word: &[u8], words: &[&str]) -> bool
+    ensures { result ≡ list_any (pointwise nat_eq word.now) (map (λ w. w.now) words.now) }
+{
+    for other in words {
+        if word == other.as_bytes() {
+            return true;
+        }
+    }
+    false
 }

@@ -1,0 +1,3 @@
+pub mod PropertyLaws
+pub mod Search
+pub mod SetLaws

@@ -1,0 +1,19 @@
+use Rattle.std.proofs.Common.{◌≡◌, ℕ, suc, ◌-◌, List, [], ◌∷◌, length, Some, arith, ap, subst, slice_get, sym}
+use Rattle.gc_base.specs.Walks.{end_of_steps}
+use Rattle.gc_base.specs.declared.walk.Step.{Step}
+use Rattle.gc_base.proofs.walk.Walk.end.Goals as goal
+
+-- the last step leads to the end
+end_of_steps-last : (n : ℕ) (steps : List Step) (s : Step) → slice_get steps (length steps - 1) ≡ Some s → end_of_steps n steps ≡ s.node
+end_of_steps-last n [] s h = cc
+end_of_steps-last n (x ∷ []) s h = let e : x ≡ s = cc in ap (λ (y : Step). y.node) e
+end_of_steps-last n (x ∷ y ∷ ys) s h =
+    end_of_steps-last x.node (y ∷ ys) s (subst (λ k. slice_get (x ∷ y ∷ ys) k ≡ Some s) (longer x y ys) h)
+  where
+    longer : (x y : Step) (ys : List Step) → length (x ∷ y ∷ ys) - 1 ≡ suc (length (y ∷ ys) - 1)
+    longer x y ys = omega arith
+
+pub returns-in-Some : goal.returns-in-Some
+returns-in-Some c =
+    sym (end_of_steps-last c.args.self.now.start c.args.self.now.steps c.in-Some.step.now
+    (subst (λ (xs : List Step). slice_get xs (length xs - 1) ≡ Some c.in-Some.step.now) c.as_slice.ensures (sym c.in-Some.ensures.value)))

@@ -1,0 +1,12 @@
+//! The graph store: path property graphs in memory. Others rely on this: every `Graph` is a valid
+//! graph by its type, and is read only through counted reads, by ascending identity. This crate
+//! knows of no file and no query.
+#![tactic(auto)]
+
+mod builder;
+mod element;
+mod graph;
+
+pub use builder::{BuildRefusal, GraphBuilder};
+pub use element::NodeInfo;
+pub use graph::Graph;
