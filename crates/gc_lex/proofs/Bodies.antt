@@ -2,7 +2,7 @@
 use Rattle.std.proofs.Common.{◌≡◌, ◌≢◌, ℕ, suc, ◌+◌, ◌<◌, ◌≤◌, Bool, true, false, cond, not, ◌&&◌, ◌||◌, ◌==◌, eqb, List, [], ◌∷◌, ◌++◌, length, get_or, take, drop, Option, Some, None, refl, sym, ap, ◌∙◌, arith, add_assoc, zero-add, one-add, append_assoc, drop-cons, add-one, add-zero, drop-drop, ◌-◌, length-drop, subst}
 use Rattle.std.specs.Str.{IsUtf8, IsCharBoundary}
 use Rattle.std.proofs.lemmas.Str.{IsCharBoundary-after_ascii}
-use Rattle.gc_lex.specs.declared.item.Item.TheVariants.{Spelled}
+use Rattle.gc_lex.specs.declared.items.Item.TheVariants.{Spelled}
 use Rattle.gc_lex.specs.declared.token.Token.TheVariants.{Text}
 use Rattle.gc_lex.specs.Items.{text_item}
 use Rattle.std.proofs.lemmas.Bool.{eq-eqb}

@@ -5,8 +5,8 @@ use Rattle.std.specs.Str.Lossy.{utf8_valid_len}
 use Rattle.std.proofs.lemmas.Str.{is_utf8-from_IsUtf8, IsUtf8-from_is_utf8}
 use Rattle.std.proofs.lemmas.List.{append-nil}
 use Rattle.gc_base.specs.declared.place.Place.{Place}
-use Rattle.gc_lex.specs.declared.item.Item.{Item}
-use Rattle.gc_lex.specs.declared.item.Item.TheVariants as item
+use Rattle.gc_lex.specs.declared.items.Item.{Item}
+use Rattle.gc_lex.specs.declared.items.Item.TheVariants as item
 use Rattle.gc_lex.specs.declared.refusal.LexRefusal.{LexRefusal}
 use Rattle.gc_lex.specs.declared.refusal.LexRefusal.TheVariants.{NotUtf8, BadCharacter, OpenText, NumberTooLarge}
 use Rattle.gc_lex.specs.declared.token.Token.{Token}
@@ -34,7 +34,7 @@ pub lexed_none : (text : List ℕ) → LexedTo text [] [] 0
 lexed_none text = record { items = length text; enough = omega arith; whole = none_before (tokens_within (length text) text 0) }
 
 -- an item and what is after it
-turn : (text : List ℕ) (at : ℕ) (item : Item) (items : ℕ) → item ≡ first_item (drop at text) → tokens_within (suc items) text at ≡ after_item text at item (tokens_within items text)
+pub turn : (text : List ℕ) (at : ℕ) (item : Item) (items : ℕ) → item ≡ first_item (drop at text) → tokens_within (suc items) text at ≡ after_item text at item (tokens_within items text)
 unfolding tokens_within
 turn text at item items is = ap (λ first. after_item text at first (tokens_within items text)) (sym is)
 
@@ -63,7 +63,7 @@ lexed_token text tokens places at place token n here is within so_far = rw here 
             ∙ ap (after_tokens tokens places) (sym (turn text at (item.Spelled token n) items is)) ∙ whole;
       }
 
-at_end : (items : ℕ) (text : List ℕ) (at : ℕ) → item.End ≡ first_item (drop at text) → tokens_within items text at ≡ Ok (the_end text at)
+pub at_end : (items : ℕ) (text : List ℕ) (at : ℕ) → item.End ≡ first_item (drop at text) → tokens_within items text at ≡ Ok (the_end text at)
 unfolding tokens_within
 at_end zero text at is = refl
 at_end (suc items) text at is = turn text at item.End items is

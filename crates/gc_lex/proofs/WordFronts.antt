@@ -21,7 +21,7 @@ of_two false true lower line h = refl
 of_two false false true line h = refl
 of_two false false false line h = absurd (false≢true h)
 
-letter_is_part : (c : ℕ) → is_ascii_alphabetic c ≡ true → is_word_part c ≡ true
+pub letter_is_part : (c : ℕ) → is_ascii_alphabetic c ≡ true → is_word_part c ≡ true
 letter_is_part c h = of_two (is_in_range 48 57 c) (is_in_range 65 90 c) (is_in_range 97 122 c) (c == 95) h
 
 -- where a letter stands first, the longest front of letters, digits and low lines is a word

@@ -4,8 +4,8 @@ use Rattle.std.specs.Char.{is_ascii_alphabetic, is_ascii_digit}
 use Rattle.std.specs.List.{before_first}
 use Rattle.std.specs.Str.Parse.{digits_value}
 use Rattle.gc_base.specs.Words.{is_word_part}
-use Rattle.gc_lex.specs.declared.item.Item.{Item}
-use Rattle.gc_lex.specs.declared.item.Item.TheVariants.{End, Gap, Spelled, BadCharacter, OpenText, NumberTooLarge}
+use Rattle.gc_lex.specs.declared.items.Item.{Item}
+use Rattle.gc_lex.specs.declared.items.Item.TheVariants.{End, Gap, Spelled, BadCharacter, OpenText, NumberTooLarge}
 use Rattle.gc_lex.specs.declared.token.Token.TheVariants.{Word, Number, Text, Symbol}
 use Rattle.gc_lex.specs.declared.token.Mark.{Mark}
 use Rattle.gc_lex.specs.Characters.{is_separator, is_line_feed, is_hash, is_quote}

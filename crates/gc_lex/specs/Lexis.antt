@@ -4,8 +4,8 @@ use Rattle.std.specs.Str.{is_utf8}
 use Rattle.std.specs.Str.Lossy.{utf8_valid_len}
 use Rattle.gc_base.specs.declared.place.Place.{Place}
 use Rattle.gc_lex.specs.declared.token.Token.{Token}
-use Rattle.gc_lex.specs.declared.item.Item.{Item}
-use Rattle.gc_lex.specs.declared.item.Item.TheVariants as item
+use Rattle.gc_lex.specs.declared.items.Item.{Item}
+use Rattle.gc_lex.specs.declared.items.Item.TheVariants as item
 use Rattle.gc_lex.specs.declared.refusal.LexRefusal.{LexRefusal}
 use Rattle.gc_lex.specs.declared.refusal.LexRefusal.TheVariants.{NotUtf8, BadCharacter, OpenText, NumberTooLarge, Memory}
 use Rattle.gc_lex.specs.Items.{first_item}

@@ -3,13 +3,30 @@ ghost use Rattle.gc_lex.specs.Characters.{is_separator, is_quote};
 ghost use Rattle.gc_lex.specs.Items.{first_item, item_of, IsItemIn};
 
 use crate::fronts::line_length;
-use crate::item::Item;
 use crate::numbers::number_at;
 use crate::symbols::symbol;
 use crate::texts::quoted;
+use crate::token::Token;
 use crate::words::word;
 use gc_base::Memory;
 use std::alloc::Global;
+
+/// What stands first in a text.
+#[derive(Debug, Drop)]
+pub enum Item {
+    /// Nothing is left.
+    End,
+    /// A separator or a comment of so many bytes.
+    Gap(usize),
+    /// A token that so many bytes spell.
+    Spelled(Token, usize),
+    /// A character that begins no token or no escape, so many bytes on.
+    BadCharacter(usize),
+    /// A text that is never closed.
+    OpenText,
+    /// A number above the limit.
+    NumberTooLarge,
+}
 
 /// What stands first in a text from an offset on.
 pub fn item_at(alloc: Global, text: &str, at: usize) -> Result<Item, Memory>

@@ -1,8 +1,7 @@
 ghost use Rattle.std.specs.Prelude.{◌≡◌, length, Ok, IfOk, IfErr};
 ghost use Rattle.gc_lex.specs.Lexis.{lexed, tokens_within, IsDue};
 
-use crate::item::Item;
-use crate::items::item_at;
+use crate::items::{Item, item_at};
 use crate::places::{START, moved};
 use crate::refusal::LexRefusal;
 use crate::tokens::Tokens;

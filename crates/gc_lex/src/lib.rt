@@ -3,8 +3,8 @@
 #![tactic(auto)]
 
 mod fronts;
-mod item;
 mod items;
+mod laws;
 mod lexer;
 mod numbers;
 mod places;
@@ -15,6 +15,7 @@ mod token;
 mod tokens;
 mod words;
 
+pub use laws::no_text_is_cut;
 pub use lexer::lex;
 pub use refusal::LexRefusal;
 pub use token::{Mark, Token};

@@ -4,7 +4,7 @@ ghost use Rattle.std.specs.Str.{all_ascii_digits};
 ghost use Rattle.gc_lex.specs.Items.{number_item, IsItemIn};
 
 use crate::fronts::number_length;
-use crate::item::Item;
+use crate::items::Item;
 use crate::token::Token;
 
 /// The number that decimal digits write, or that it is above the limit. Leading zeros are allowed.

@@ -2,7 +2,7 @@ ghost use Rattle.std.specs.Prelude.{◌≡◌, ◌<◌, length, [], ◌∷◌};
 ghost use Rattle.gc_lex.specs.Items.{symbol_item, IsItemIn};
 ghost use Rattle.gc_lex.specs.Symbols.{symbols, symbols_of_one, symbols_of_two, entry_of, mark_in};
 
-use crate::item::Item;
+use crate::items::Item;
 use crate::token::{Mark, Token};
 
 /// The longest symbol at the front of bytes.

@@ -5,7 +5,7 @@ ghost use Rattle.gc_lex.specs.Items.{text_item, IsItemIn};
 ghost use Rattle.gc_lex.specs.Stops.{body_from, IsStopIn};
 
 use crate::fronts::plain_length;
-use crate::item::Item;
+use crate::items::Item;
 use crate::token::Token;
 use gc_base::{Memory, Str};
 use std::alloc::Global;

@@ -72,6 +72,12 @@ pub enum Token {
     Symbol(Mark),
 }
 
+impl Duplicate for Mark {
+    fn copy(&self) -> Result<Mark, Memory> {
+        Ok(*self)
+    }
+}
+
 impl Duplicate for Token {
     fn copy(&self) -> Result<Token, Memory> {
         match self {

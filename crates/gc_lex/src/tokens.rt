@@ -1,7 +1,7 @@
 ghost use Rattle.std.specs.Prelude.{◌≡◌, ◌+◌, ◌<◌, ◌≤◌, ◌^◌, length, slice_get, Some};
 
 use crate::token::Token;
-use gc_base::{Numbered, Place};
+use gc_base::{Duplicate, Memory, Numbered, Place};
 use std::marker::Model;
 
 /// The tokens of a text and their places. Contracts see the list of the tokens, and the list of the
@@ -59,5 +59,15 @@ impl Tokens {
         ensures { result.now ≡ self.now.tokens }
     {
         self.tokens.as_slice()
+    }
+}
+
+impl Duplicate for Tokens {
+    fn copy(&self) -> Result<Tokens, Memory> {
+        Ok(Tokens {
+            tokens: self.tokens.copy()?,
+            places: self.places.copy()?,
+            end: self.end,
+        })
     }
 }

@@ -4,7 +4,7 @@ ghost use Rattle.gc_base.specs.Words.{is_word_part};
 ghost use Rattle.gc_lex.specs.Items.{word_item, IsItemIn};
 
 use crate::fronts::word_length;
-use crate::item::Item;
+use crate::items::Item;
 use crate::token::Token;
 use gc_base::{Memory, Name};
 use std::alloc::Global;

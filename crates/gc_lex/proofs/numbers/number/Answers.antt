@@ -3,7 +3,7 @@ use Rattle.std.specs.Str.{all_ascii_digits}
 use Rattle.std.specs.Str.Parse.{digits_value}
 use Rattle.std.proofs.lemmas.Bool.Decides.{nat_tests}
 use Rattle.std.proofs.lemmas.Str.Parse.{IsNumeralModel, numerals_by_value, tells_all_ascii_digits, parse_signed_digits}
-use Rattle.gc_lex.specs.declared.item.Item.TheVariants.{NumberTooLarge}
+use Rattle.gc_lex.specs.declared.items.Item.TheVariants.{NumberTooLarge}
 use Rattle.gc_lex.specs.Items.{number_item}
 use Rattle.gc_lex.proofs.numbers.number.Goals as goal
 
