@@ -115,7 +115,7 @@ body_escape quote rest n meaning h whole within other means =
     let here = stop_is_backslash quote rest n whole (omega arith) other in
     let two : n + 1 + 1 ≡ n + 2 = omega arith in
     after_run quote rest (92 ∷ get_or rest (n + 1) 0 ∷ drop (n + 2) rest) n whole
-        (rest_of rest n 92 (omega arith) here ∙ ap (λ cs. 92 ∷ cs) (rest_of rest (n + 1) _ within refl ∙ ap (λ k. get_or rest (n + 1) 0 ∷ drop k rest) two))
+    (rest_of rest n 92 (omega arith) here ∙ ap (λ cs. 92 ∷ cs) (rest_of rest (n + 1) _ within refl ∙ ap (λ k. get_or rest (n + 1) 0 ∷ drop k rest) two))
     ∙ rw (backslash_escapes quote (get_or rest (n + 1) 0) (drop (n + 2) rest) h, means) refl
 
 pub body_meaning : (quote : ℕ) (rest : List ℕ) (n c : ℕ) → is_quote quote ≡ true → n ≡ prefix_len (is_plain quote) rest → n + 1 < length rest → get_or rest n 0 ≢ quote

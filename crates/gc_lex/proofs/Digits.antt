@@ -1,4 +1,4 @@
--- The longest front of digits, and of a comment.
+-- The longest front of digits.
 use Rattle.std.proofs.Common.{◌≡◌, ℕ, ◌+◌, ◌-◌, ◌<◌, ◌≤◌, Bool, true, false, cond, not, List, [], ◌∷◌, length, get_or, take, drop, refl, arith, one-add, length-drop, subst}
 use Rattle.std.specs.List.{prefix_len, position_or_len}
 use Rattle.std.specs.Char.{is_ascii_digit}
@@ -31,9 +31,3 @@ digits_cut text at n utf8 inside digit whole =
     let last : get_or text (at + (n - 1)) 0 < 128 = rw get_or-drop at small in
     let after : at + (n - 1) + 1 ≡ at + n = omega arith in
     subst (λ i. IsCharBoundary text i) after (IsCharBoundary-after_ascii text (at + (n - 1)) utf8 (omega arith) last)
-
--- a comment has at least its hash
-pub comment_some : (text : List ℕ) (at : ℕ) → at < length text → get_or text at 0 ≡ 35 → 0 < position_or_len is_line_feed (drop at text)
-comment_some text at inside hash =
-    let passes : not (is_line_feed (get_or text at 0)) ≡ true = rw hash refl in
-    omega (arith, prefix_len-drop_yes (λ c. not (is_line_feed c)) text at 0 inside passes)

@@ -28,5 +28,5 @@ enough (suc f) zero text at few more = at_end (suc f) text at (ends text at (ome
 enough (suc f) (suc g) text at few more =
     turn text at (first_item (drop at text)) f refl
     ∙ same_after text at (first_item (drop at text)) (tokens_within f text) (tokens_within g text) (first_within (drop at text))
-        (λ n some. enough f g text (at + n) (omega arith) (omega arith))
+    (λ n some. enough f g text (at + n) (omega arith) (omega arith))
     ∙ sym (turn text at (first_item (drop at text)) g refl)

@@ -1,5 +1,5 @@
 -- The first item of a text takes at least one of its bytes, and no more than there are.
-use Rattle.std.proofs.Common.{◌≡◌, ℕ, zero, suc, ◌+◌, ◌<◌, ◌≤◌, Bool, true, false, cond, not, List, [], ◌∷◌, length, take, drop, Option, Some, None, refl, sym, ap, ◌∙◌, arith, nat_eq, nat_lt, ◌&&◌, nat_le, pos, take_while}
+use Rattle.std.proofs.Common.{◌≡◌, ℕ, zero, suc, ◌+◌, ◌<◌, ◌≤◌, Bool, true, false, cond, not, List, [], ◌∷◌, length, take, drop, Option, Some, None, refl, sym, ap, ◌∙◌, arith, nat_eq, nat_lt, ◌&&◌, nat_le, pos, take_while, get_or, drop-cons, subst, Result, Ok, Err, IfOk}
 use Rattle.std.specs.Str.Parse.{digits_value}
 use Rattle.gc_lex.specs.declared.token.Token.TheVariants.{Number}
 use Rattle.std.specs.List.{prefix_len, list_all, starts_with, before_first}
@@ -54,9 +54,9 @@ body_within quote [] = tt
 body_within quote (c ∷ []) = choose_body (c ∷ []) (nat_eq c quote) (Closed [] 1) Unclosed (omega arith) tt
 body_within quote (c ∷ d ∷ cs) =
     choose_body (c ∷ d ∷ cs) (nat_eq c quote) (Closed [] 1) _ (omega arith)
-        (choose_body (c ∷ d ∷ cs) (is_backslash c) (escape_before (escape_of d) (body_of quote cs)) (byte_before c 1 (body_of quote (d ∷ cs)))
-            (escape_in (escape_of d) cs (c ∷ d ∷ cs) (body_of quote cs) (omega arith) (body_within quote cs))
-            (byte_within c 1 (d ∷ cs) (c ∷ d ∷ cs) (body_of quote (d ∷ cs)) (omega arith) (body_within quote (d ∷ cs))))
+    (choose_body (c ∷ d ∷ cs) (is_backslash c) (escape_before (escape_of d) (body_of quote cs)) (byte_before c 1 (body_of quote (d ∷ cs)))
+    (escape_in (escape_of d) cs (c ∷ d ∷ cs) (body_of quote cs) (omega arith) (body_within quote cs))
+    (byte_within c 1 (d ∷ cs) (c ∷ d ∷ cs) (body_of quote (d ∷ cs)) (omega arith) (body_within quote (d ∷ cs))))
 
 text_within : (c : ℕ) (cs : List ℕ) (body : Body) → IsBodyIn cs body → IsItemIn (c ∷ cs) (text_item body)
 text_within c cs (Closed contents n) within = (omega arith, omega arith)
@@ -88,8 +88,8 @@ entry_within [] c cs some = omega arith
 entry_within (entry ∷ entries) c cs some =
     let all = both (nat_lt 0 (length entry.0)) (list_all (λ entry. nat_lt 0 (length entry.0)) entries) some in
     entry_step (c ∷ cs) (starts_with nat_eq (c ∷ cs) entry.0) entry (entry_of entries (c ∷ cs))
-        (λ begins. (positive (length entry.0) all.0, spelled_within entry.0 (c ∷ cs) begins))
-        (entry_within entries c cs all.1)
+    (λ begins. (positive (length entry.0) all.0, spelled_within entry.0 (c ∷ cs) begins))
+    (entry_within entries c cs all.1)
 
 number_within : (digits text : List ℕ) → 0 < length digits → length digits ≤ length text → IsItemIn text (number_item digits)
 number_within digits text some within =
@@ -141,3 +141,11 @@ module _ (c : ℕ) (cs : List ℕ) where
 pub first_within : (text : List ℕ) → IsItemIn text (first_item text)
 first_within [] = refl
 first_within (c ∷ cs) = item_in c cs
+
+-- the same at an offset
+pub item_bounds : (text : List ℕ) (at : ℕ) → at < length text → IsItemIn (drop at text) (item_of (get_or text at 0) (drop at text))
+item_bounds text at within = rw (drop-cons text at 0 within) (item_in (get_or text at 0) (drop (suc at) text))
+
+pub bounds_if_ok : {E : Type 0} (text : List ℕ) (first : Item) (result : Result Item E) → IsItemIn text first → IfOk result (λ item. item ≡ first) → IfOk result (IsItemIn text)
+bounds_if_ok text first (Ok item) within is = subst (λ item. IsItemIn text item) (sym is) within
+bounds_if_ok text first (Err e) within is = tt

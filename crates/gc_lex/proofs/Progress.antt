@@ -27,7 +27,7 @@ none_before (Err refusal) = refl
 
 one_before : (tokens : List Token) (places : List Place) (token : Token) (place : Place) (outcome : Result TokenList LexRefusal)
     → after_tokens tokens places (after_tokens (token ∷ []) (place ∷ []) outcome) ≡ after_tokens (tokens ++ token ∷ []) (places ++ place ∷ []) outcome
-one_before tokens places token place (Ok list) = rw (append_assoc, append_assoc) refl
+one_before tokens places token place (Ok list) = simp append_assoc
 one_before tokens places token place (Err refusal) = refl
 
 pub lexed_none : (text : List ℕ) → LexedTo text [] [] 0
@@ -45,10 +45,10 @@ lexed_gap text tokens places at n is within so_far = gap so_far.items so_far.eno
     gap : (items : ℕ) → length text - at ≤ items → after_tokens tokens places (tokens_within items text at) ≡ tokens_within (length text) text 0 → LexedTo text tokens places (at + n)
     gap zero enough whole = absurd (omega (arith, length-drop at text, within.0, within.1))
     gap (suc items) enough whole = record {
-        items = items;
-        enough = omega (arith, within.0);
-        whole = ap (after_tokens tokens places) (sym (turn text at (item.Gap n) items is)) ∙ whole;
-      }
+      items = items;
+      enough = omega (arith, within.0);
+      whole = ap (after_tokens tokens places) (sym (turn text at (item.Gap n) items is)) ∙ whole;
+    }
 
 pub lexed_token : (text : List ℕ) (tokens : List Token) (places : List Place) (at : ℕ) (place : Place) (token : Token) (n : ℕ) → place ≡ place_at text at → item.Spelled token n ≡ first_item (drop at text) → IsItemIn (drop at text) (item.Spelled token n)
     → LexedTo text tokens places at → LexedTo text (tokens ++ token ∷ []) (places ++ place ∷ []) (at + n)
@@ -57,11 +57,11 @@ lexed_token text tokens places at place token n here is within so_far = rw here 
     spelled : (items : ℕ) → length text - at ≤ items → after_tokens tokens places (tokens_within items text at) ≡ tokens_within (length text) text 0 → LexedTo text (tokens ++ token ∷ []) (places ++ place_at text at ∷ []) (at + n)
     spelled zero enough whole = absurd (omega (arith, length-drop at text, within.0, within.1))
     spelled (suc items) enough whole = record {
-        items = items;
-        enough = omega (arith, within.0);
-        whole = sym (one_before tokens places token (place_at text at) (tokens_within items text (at + n)))
-            ∙ ap (after_tokens tokens places) (sym (turn text at (item.Spelled token n) items is)) ∙ whole;
-      }
+      items = items;
+      enough = omega (arith, within.0);
+      whole = sym (one_before tokens places token (place_at text at) (tokens_within items text (at + n)))
+          ∙ ap (after_tokens tokens places) (sym (turn text at (item.Spelled token n) items is)) ∙ whole;
+    }
 
 pub at_end : (items : ℕ) (text : List ℕ) (at : ℕ) → item.End ≡ first_item (drop at text) → tokens_within items text at ≡ Ok (the_end text at)
 unfolding tokens_within

@@ -8,9 +8,9 @@ use Rattle.gc_lex.specs.Characters.{is_line_feed}
 -- after the last of them
 abbrev pub place_after : List ℕ → Place
 place_after before = record {
-    line = count_by is_line_feed before + 1;
-    column = length (after_last is_line_feed before) + 1;
-  }
+  line = count_by is_line_feed before + 1;
+  column = length (after_last is_line_feed before) + 1;
+}
 
 -- the place of an offset of a text
 abbrev pub place_at : List ℕ → ℕ → Place

@@ -43,8 +43,7 @@ pub fn item_at(alloc: Global, text: &str, at: usize) -> Result<Item, Memory>
 fn item_from(alloc: Global, text: &str, at: usize, first: u8) -> Result<Item, Memory>
     requires within { at < length text.now }
     requires here { slice_index text.now at ≡ first }
-    ensures item { IfOk result (λ item. item ≡ item_of first (drop at text.now)) }
-    ensures within { IfOk result (IsItemIn (drop at text.now)) }
+    ensures { IfOk result (λ item. item ≡ item_of first (drop at text.now)) }
 {
     let (_, rest) = text.as_bytes().split_at(at);
     if is_separator(first) {

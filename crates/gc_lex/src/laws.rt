@@ -6,5 +6,4 @@ ghost use Rattle.gc_lex.specs.Lexis.{tokens_within};
 pub fn no_text_is_cut()
     ensures { (text : List ℕ) (items : ℕ) → length text ≤ items
         → tokens_within items text 0 ≡ tokens_within (length text) text 0 }
-{
-}
+{}

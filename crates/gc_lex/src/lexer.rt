@@ -18,12 +18,7 @@ pub fn lex(alloc: Global, text: &[u8]) -> Result<Tokens, LexRefusal>
 {
     match str::from_utf8(text) {
         Ok(text) => tokens_of(alloc, text),
-        Err(error) => Err(LexRefusal::NotUtf8(moved(
-            text,
-            0,
-            error.valid_up_to(),
-            START,
-        ))),
+        Err(error) => Err(LexRefusal::NotUtf8(moved(text, 0, error.valid_up_to(), START))),
     }
 }
 
@@ -40,7 +35,11 @@ fn tokens_of(alloc: Global, text: &str) -> Result<Tokens, LexRefusal>
     'items: loop {
         match item_at(alloc, text, at)? {
             Item::End => {
-                return Ok(Tokens { tokens, places, end: place });
+                return Ok(Tokens {
+                    tokens,
+                    places,
+                    end: place,
+                });
             }
             Item::Gap(n) => {
                 place = moved(bytes, at, at + n, place);

@@ -20,3 +20,6 @@ pub use lexer::lex;
 pub use refusal::LexRefusal;
 pub use token::{Mark, Token};
 pub use tokens::Tokens;
+
+#[cfg(test)]
+mod tests;

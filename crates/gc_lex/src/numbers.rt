@@ -1,7 +1,7 @@
 ghost use Rattle.std.specs.Prelude.{◌≡◌, ◌<◌, true, length, drop, slice_index, take_while};
 ghost use Rattle.std.specs.Char.{is_ascii_digit};
 ghost use Rattle.std.specs.Str.{all_ascii_digits};
-ghost use Rattle.gc_lex.specs.Items.{number_item, IsItemIn};
+ghost use Rattle.gc_lex.specs.Items.{number_item};
 
 use crate::fronts::number_length;
 use crate::items::Item;
@@ -23,8 +23,7 @@ fn number(digits: &str) -> Item
 pub fn number_at(text: &str, at: usize) -> Item
     requires within { at < length text.now }
     requires digit { is_ascii_digit (slice_index text.now at) ≡ true }
-    ensures item { result ≡ number_item (take_while is_ascii_digit (drop at text.now)) }
-    ensures within { IsItemIn (drop at text.now) result }
+    ensures { result ≡ number_item (take_while is_ascii_digit (drop at text.now)) }
 {
     let (_, rest) = text.as_bytes().split_at(at);
     let length = number_length(rest);

@@ -16,9 +16,15 @@ pub fn moved(text: &[u8], from: usize, to: usize, place: Place) -> Place
     let mut place = place;
     for i in from..to {
         place = if text[i] == b'\n' {
-            Place { line: place.line + 1, column: 1 }
+            Place {
+                line: place.line + 1,
+                column: 1,
+            }
         } else {
-            Place { line: place.line, column: place.column + 1 }
+            Place {
+                line: place.line,
+                column: place.column + 1,
+            }
         };
     }
     place

@@ -1,5 +1,5 @@
 ghost use Rattle.std.specs.Prelude.{◌≡◌, ◌<◌, length, [], ◌∷◌};
-ghost use Rattle.gc_lex.specs.Items.{symbol_item, IsItemIn};
+ghost use Rattle.gc_lex.specs.Items.{symbol_item};
 ghost use Rattle.gc_lex.specs.Symbols.{symbols, symbols_of_one, symbols_of_two, entry_of, mark_in};
 
 use crate::items::Item;
@@ -8,10 +8,11 @@ use crate::token::{Mark, Token};
 /// The longest symbol at the front of bytes.
 pub fn symbol(rest: &[u8]) -> Item
     requires { 0 < length rest.now }
-    ensures item { result ≡ symbol_item (entry_of symbols rest.now) }
-    ensures within { IsItemIn rest.now result }
+    ensures { result ≡ symbol_item (entry_of symbols rest.now) }
 {
-    if rest.len() > 1 && let Some(mark) = mark_of_two(rest[0], rest[1]) {
+    if rest.len() > 1
+        && let Some(mark) = mark_of_two(rest[0], rest[1])
+    {
         return Item::Spelled(Token::Symbol(mark), 2);
     }
     match mark_of_one(rest[0]) {

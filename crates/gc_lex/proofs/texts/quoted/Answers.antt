@@ -11,21 +11,21 @@ use Rattle.gc_lex.proofs.texts.quoted.Goals as goal
 
 pub pieces-init : goal.pieces-init
 pieces-init c = record {
-    started = omega arith;
-    within = omega arith;
-    cut = IsCharBoundary-after_ascii c.args.text.now c.args.opening c.utf8.text c.requires.within (omega (arith, quote_ascii c.args.quote c.requires.quote));
-    said = run_start _ _ _ c.new-contents.ensures.bytes (omega arith);
-  }
+  started = omega arith;
+  within = omega arith;
+  cut = IsCharBoundary-after_ascii c.args.text.now c.args.opening c.utf8.text c.requires.within (omega (arith, quote_ascii c.args.quote c.requires.quote));
+  said = run_start _ _ _ c.new-contents.ensures.bytes (omega arith);
+}
 
-pub returns-in-Quote-clause-item : goal.returns-in-Quote-clause-item
-returns-in-Quote-clause-item c =
+pub returns-in-Quote : goal.returns-in-Quote
+returns-in-Quote c =
     let n = c.in-Quote.n in
     let rest = drop c.pieces.at c.args.text.now in
     let is : c.as_bytes.result.now ≡ rest = c.as_bytes.ensures.value ∙ c.range_from-rest.ensures.value in
     let body : body_of c.args.quote rest ≡ Closed (take n rest) (n + 1) = rw is at c.in-Quote.ensures.body in
     let run : c.range.result.now ≡ take n rest = grind (arith, common_steps) in
     let whole : c.from_string-contents.result ≡ string_bytes c.pieces.contents ++ take n rest =
-        c.from_string-contents.ensures ∙ c.in_ok-push_str-in-Quote.ensures.bytes ∙ ap (λ bytes. string_bytes c.pieces.contents ++ bytes) run in
+    c.from_string-contents.ensures ∙ c.in_ok-push_str-in-Quote.ensures.bytes ∙ ap (λ bytes. string_bytes c.pieces.contents ++ bytes) run in
     run_closed _ _ _ _ _ _ _ _ body c.pieces.invariant.said whole (omega arith)
 
 pub pieces-preserved : goal.pieces-preserved
@@ -43,5 +43,5 @@ pieces-preserved c =
       within = escape_within text at n c.in-Escape.meaning c.pieces.invariant.within stops;
       cut = escape_cuts text at n c.in-Escape.meaning c.utf8.text c.pieces.invariant.within stops;
       said = run_more c.args.quote c.args.opening at n c.in-Escape.meaning text (string_bytes c.pieces.contents) _ c.pieces.invariant.started body c.pieces.invariant.said
-        (pushed_twice _ _ _ _ _ _ _ c.in_ok-push-in-Escape.ensures.bytes (c.in_ok-push-in-Escape.ensures.ascii stops.3) c.in_ok-push_str-in-Escape.ensures.bytes run);
+          (pushed_twice _ _ _ _ _ _ _ c.in_ok-push-in-Escape.ensures.bytes (c.in_ok-push-in-Escape.ensures.ascii stops.3) c.in_ok-push_str-in-Escape.ensures.bytes run);
     }
