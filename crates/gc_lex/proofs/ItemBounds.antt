@@ -1,9 +1,8 @@
 -- The first item of a text takes at least one of its bytes, and no more than there are.
-use Rattle.std.proofs.Common.{◌≡◌, ℕ, zero, suc, ◌+◌, ◌<◌, ◌≤◌, Bool, true, false, cond, not, List, [], ◌∷◌, length, take, drop, Option, Some, None, refl, sym, ap, ◌∙◌, arith, nat_eq, nat_lt, ◌&&◌, nat_le, pos, take_while, get_or, drop-cons, subst, Result, Ok, Err, IfOk}
+use Rattle.std.proofs.Common.{◌≡◌, ℕ, suc, ◌+◌, ◌<◌, ◌≤◌, Bool, true, false, cond, not, List, [], ◌∷◌, length, take, drop, Option, Some, None, refl, sym, arith, nat_eq, nat_lt, ◌&&◌, nat_le, pos, take_while, get_or, drop-cons, subst, Result, Ok, Err, IfOk}
 use Rattle.std.specs.Str.Parse.{digits_value}
 use Rattle.gc_lex.specs.declared.token.Token.TheVariants.{Number}
 use Rattle.std.specs.List.{prefix_len, list_all, starts_with, before_first}
-use Rattle.std.specs.Cmp.Lexicographic.{pointwise}
 use Rattle.std.proofs.lemmas.Bool.{false≢true}
 use Rattle.std.proofs.lemmas.Bool.Decides.{nat_tests}
 use Rattle.std.proofs.lemmas.List.Folds.{length-prefix_len}

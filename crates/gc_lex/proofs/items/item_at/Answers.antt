@@ -1,4 +1,4 @@
-use Rattle.std.proofs.Common.{arith, drop, get_or, ◌<◌, length}
+use Rattle.std.proofs.Common.{arith, drop, get_or}
 use Rattle.gc_lex.specs.Items.{item_of}
 use Rattle.gc_lex.proofs.ItemBounds.{item_bounds, bounds_if_ok}
 use Rattle.gc_lex.proofs.items.item_at.Goals as goal

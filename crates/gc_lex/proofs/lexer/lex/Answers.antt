@@ -1,6 +1,6 @@
-use Rattle.std.proofs.Common.{◌≡◌, length, Result, Ok, IfOk, IfErr, sym, ◌∙◌, subst}
+use Rattle.std.proofs.Common.{◌≡◌, Result, Ok, IfOk, IfErr, ◌∙◌, subst}
 use Rattle.gc_lex.specs.declared.refusal.LexRefusal.{LexRefusal}
-use Rattle.gc_lex.specs.Lexis.{TokenList, lexed, IsDue}
+use Rattle.gc_lex.specs.Lexis.{TokenList, IsDue}
 use Rattle.gc_lex.proofs.Progress.{lexed_text, lexed_not_utf8}
 use Rattle.gc_lex.proofs.lexer.lex.Goals as goal
 

@@ -1,8 +1,8 @@
-use Rattle.std.proofs.Common.{◌≡◌, ◌+◌, ◌≤◌, [], ◌∷◌, ◌++◌, length, drop, sym, ap, ◌∙◌, arith, length-drop, length-append}
+use Rattle.std.proofs.Common.{◌≡◌, ◌+◌, [], ◌∷◌, ◌++◌, length, drop, sym, ap, ◌∙◌, arith, length-drop, length-append}
 use Rattle.gc_lex.specs.declared.items.Item.TheVariants as item
 use Rattle.gc_lex.specs.Items.{first_item, IsItemIn}
 use Rattle.gc_lex.specs.Places.{place_at}
-use Rattle.gc_lex.proofs.Progress.{LexedTo, lexed_gap, lexed_token, lexed_all, lexed_bad, lexed_open, lexed_large}
+use Rattle.gc_lex.proofs.Progress.{lexed_gap, lexed_token, lexed_all, lexed_bad, lexed_open, lexed_large}
 use Rattle.gc_lex.proofs.lexer.tokens_of.Goals as goal
 
 pub returns-in-End-clause-tokens : goal.returns-in-End-clause-tokens

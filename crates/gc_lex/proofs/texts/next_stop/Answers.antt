@@ -1,4 +1,4 @@
-use Rattle.std.proofs.Common.{◌≡◌, arith, sym, ◌∙◌}
+use Rattle.std.proofs.Common.{arith, sym}
 use Rattle.gc_lex.proofs.Bodies.{stop_is_backslash, body_end, body_quote, body_last, body_meaning, body_bad}
 use Rattle.gc_lex.proofs.texts.next_stop.Goals as goal
 

@@ -1,7 +1,7 @@
 use Rattle.std.proofs.Common.{◌≡◌, ◌+◌, ◌-◌, ◌<◌, ◌≤◌, length, drop}
 use Rattle.std.specs.Str.{IsCharBoundary}
 use Rattle.std.specs.String.{string_bytes}
-use Rattle.gc_lex.specs.Contents.{Body, body_of}
+use Rattle.gc_lex.specs.Contents.{body_of}
 use Rattle.gc_lex.specs.Stops.{run_before}
 use Rattle.gc_lex.proofs.texts.quoted.Given as goal
 
