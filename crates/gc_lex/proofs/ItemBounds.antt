@@ -134,7 +134,7 @@ module _ (c : ℕ) (cs : List ℕ) where
       (λ hash. front_within (λ x. not (is_line_feed x)) c cs (hash_stays c hash)) (λ _. word_in)
 
   item_in : IsItemIn (c ∷ cs) (item_of c (c ∷ cs))
-  item_in = choose (c ∷ cs) (is_separator c) (item.Gap 1) (comment_case c (c ∷ cs)) (λ _. (omega arith, omega arith)) (λ _. comment_in)
+  item_in = choose (c ∷ cs) (is_separator c) (item.Gap (length (take_while is_separator (c ∷ cs)))) (comment_case c (c ∷ cs)) (front_within is_separator c cs) (λ _. comment_in)
 
 -- the first item of a text
 pub first_within : (text : List ℕ) → IsItemIn text (first_item text)

@@ -34,11 +34,11 @@ abbrev pub symbol_item : Option (List ℕ × Mark) → Item
 symbol_item None = BadCharacter 0
 symbol_item (Some entry) = Spelled (Symbol entry.1) (length entry.0)
 
--- what stands first in a text that begins with this character: one separator; a comment, which goes
--- to the line feed or the end; or the longest word, number, text or symbol
+-- what stands first in a text that begins with this character: the longest run of separators; a
+-- comment, which goes to the line feed or the end; or the longest word, number, text or symbol
 abbrev pub item_of : ℕ → List ℕ → Item
 item_of c text =
-    if is_separator c then Gap 1
+    if is_separator c then Gap (length (take_while is_separator text))
     else (if is_hash c then Gap (length (before_first is_line_feed text))
     else (if is_ascii_alphabetic c then word_item (take_while is_word_part text)
     else (if is_ascii_digit c then number_item (take_while is_ascii_digit text)

@@ -1,8 +1,8 @@
 ghost use Rattle.std.specs.Prelude.{◌≡◌, ◌<◌, ◌≤◌, length, drop, slice_index, IfOk};
-ghost use Rattle.gc_lex.specs.Characters.{is_separator, is_quote};
+ghost use Rattle.gc_lex.specs.Characters.{is_quote};
 ghost use Rattle.gc_lex.specs.Items.{first_item, item_of, IsItemIn};
 
-use crate::fronts::line_length;
+use crate::fronts::{is_separator, line_length, separator_length};
 use crate::numbers::number_at;
 use crate::symbols::symbol;
 use crate::texts::quoted;
@@ -16,7 +16,7 @@ use std::alloc::Global;
 pub enum Item {
     /// Nothing is left.
     End,
-    /// A separator or a comment of so many bytes.
+    /// Separators or a comment of so many bytes.
     Gap(usize),
     /// A token that so many bytes spell.
     Spelled(Token, usize),
@@ -47,7 +47,7 @@ fn item_from(alloc: Global, text: &str, at: usize, first: u8) -> Result<Item, Me
 {
     let (_, rest) = text.as_bytes().split_at(at);
     if is_separator(first) {
-        return Ok(Item::Gap(1));
+        return Ok(Item::Gap(separator_length(rest)));
     }
     if first == b'#' {
         return Ok(Item::Gap(line_length(rest)));
@@ -62,12 +62,6 @@ fn item_from(alloc: Global, text: &str, at: usize, first: u8) -> Result<Item, Me
         return quoted(alloc, text, at, first);
     }
     Ok(symbol(rest))
-}
-
-fn is_separator(byte: u8) -> bool
-    ensures { result ≡ is_separator byte }
-{
-    matches!(byte, b' ' | b'\t' | b'\r' | b'\n')
 }
 
 fn is_quote(byte: u8) -> bool
