@@ -1,2 +1,4 @@
 mod Keys
+pub mod GraphsReadBack
+pub mod ReadsBack
 mod WordTexts
