@@ -1,4 +1,5 @@
 mod Keys
 pub mod GraphsReadBack
 pub mod ReadsBack
+mod Rest
 mod WordTexts
