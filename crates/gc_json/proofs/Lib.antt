@@ -1,2 +1,5 @@
 mod Keys
+pub mod GraphsReadBack
+pub mod ReadsBack
+mod Rest
 mod WordTexts

@@ -1,5 +1,5 @@
 use Rattle.std.proofs.Common.{◌≡◌, ◌++◌, drop}
-use Rattle.gc_json.specs.Writing.{rest_of_properties}
+use Rattle.gc_json.proofs.Rest.{rest_of_properties}
 use Rattle.gc_json.proofs.elements.write_properties.Given as goal
 
 -- the tokens so far with the rest are the tokens of all

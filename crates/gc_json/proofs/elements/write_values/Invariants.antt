@@ -1,6 +1,6 @@
 use Rattle.std.proofs.Common.{◌≡◌, ◌++◌, drop}
 use Rattle.gc_json.specs.CanonicalText.{literal_data}
-use Rattle.gc_json.specs.Writing.{rest_of_array}
+use Rattle.gc_json.proofs.Rest.{rest_of_array}
 use Rattle.gc_json.proofs.elements.write_values.Given as goal
 
 -- the tokens so far with the rest are the tokens of all

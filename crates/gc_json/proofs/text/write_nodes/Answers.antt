@@ -5,7 +5,8 @@ use Rattle.std.proofs.lemmas.Option.{slice_get_within, get_or_from_slice_get}
 use Rattle.gc_spec.specs.PropertyGraph.{Node}
 use Rattle.json.specs.Token.{Token}
 use Rattle.gc_json.specs.CanonicalText.{node_data}
-use Rattle.gc_json.specs.Writing.{tokens_of, rest_of_array}
+use Rattle.gc_json.specs.Writing.{tokens_of}
+use Rattle.gc_json.proofs.Rest.{rest_of_array}
 use Rattle.gc_json.proofs.text.write_nodes.Goals as goal
 
 next_first : (ns : List Node) (i : ℕ) (n : Node) → slice_get ns i ≡ Some n → drop i ns ≡ n ∷ drop (i + 1) ns

@@ -1,6 +1,6 @@
 use Rattle.std.proofs.Common.{◌≡◌, ◌++◌, ◌+◌, drop}
 use Rattle.gc_json.specs.CanonicalText.{node_data}
-use Rattle.gc_json.specs.Writing.{rest_of_array}
+use Rattle.gc_json.proofs.Rest.{rest_of_array}
 use Rattle.gc_json.proofs.text.write_nodes.Given as goal
 
 -- the tokens so far with the rest are the tokens of all, and each node took a step
