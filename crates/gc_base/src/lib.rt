@@ -16,6 +16,8 @@ mod properties;
 mod sequence;
 mod sets;
 mod steps;
+#[cfg(test)]
+mod tests;
 mod text;
 mod walk;
 
