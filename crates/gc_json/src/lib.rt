@@ -4,10 +4,12 @@
 #![tactic(auto)]
 
 mod elements;
+mod laws;
 #[cfg(test)]
 mod tests;
 mod text;
 mod thin;
 
+pub use laws::canonical_texts_read_back;
 pub use text::print;
 pub use thin::{ThinRefusal, load_thin};

@@ -1,6 +1,6 @@
-ghost use Rattle.std.specs.Prelude.{◌≡◌, IfOk, take_while};
+ghost use Rattle.std.specs.Prelude.{◌≡◌, ℕ, List, Some, IfOk, take_while};
 ghost use Rattle.gc_base.specs.Words.{is_word_part};
-ghost use Rattle.gcore.specs.ThinQueries.{thin_label, thin_text, word_at, label_by, is_text};
+ghost use Rattle.gcore.specs.ThinQueries.{IsThinQuery, thin_label, thin_text, word_at, label_by, is_text};
 
 use gc_base::{Memory, Name, is_reserved};
 use std::alloc::Global;
@@ -94,3 +94,9 @@ fn is_word_byte(byte: u8) -> bool
 {
     byte.is_ascii_alphanumeric() || byte == b'_'
 }
+
+/// The bytes with a label are exactly the texts of a thin query, with at most one line feed.
+pub fn thin_queries()
+    ensures found { (bytes variable label : List ℕ) → IsThinQuery bytes variable label → thin_label bytes ≡ Some label }
+    ensures exact { (bytes label : List ℕ) → thin_label bytes ≡ Some label → (variable : List ℕ) × IsThinQuery bytes variable label }
+{}
