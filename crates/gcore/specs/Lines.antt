@@ -26,3 +26,13 @@ status_of (TooLarge file) = status.Size
 status_of NotBuilt = status.NotBuilt
 status_of Unwritten = status.Write
 status_of OutOfMemory = status.Memory
+
+-- the exit status of each status
+abbrev pub code_of : Status → ℕ
+code_of status.Done = 0
+code_of status.Usage = 2
+code_of status.Read = 6
+code_of status.Write = 7
+code_of status.Memory = 8
+code_of status.Size = 10
+code_of status.NotBuilt = 11
