@@ -1,7 +1,8 @@
 -- What a writer of JSON tokens gains.
 use Rattle.std.specs.Prelude.{◌≡◌, ◌++◌, List, map, OnOk, Result}
 use Rattle.gc_base.specs.declared.properties.Property.{Property}
-use Rattle.gc_json.specs.CanonicalText.{property_members}
+use Rattle.gc_base.specs.declared.walk.Step.{Step}
+use Rattle.gc_json.specs.CanonicalText.{property_members, step_items}
 use Rattle.json.specs.Token.{Token}
 use Rattle.json.specs.Tree.{json_tokens, items_tokens, members_tokens}
 use Rattle.json.specs.Written.{Written}
@@ -24,3 +25,7 @@ rest_of_array f xs = items_tokens (items_outline (items_of (map f xs)))
 -- the tokens of an object's properties from here on, and the closing brace
 abbrev pub rest_of_properties : List Property → List Token
 rest_of_properties ps = members_tokens (members_outline (property_members ps))
+
+-- the tokens of a walk's steps from here on, and the closing bracket
+abbrev pub rest_of_walk : List Step → List Token
+rest_of_walk steps = items_tokens (items_outline (step_items steps))

@@ -1,2 +1,6 @@
+pub mod ElementLists
+pub mod ElementMaps
+pub mod Finds
 pub mod Kept
-pub mod NodeLists
+pub mod Valid
+pub mod WalkTests

@@ -1,2 +1,4 @@
 pub mod Built
 pub mod Labelled
+pub mod Reads
+pub mod Refusals

@@ -1,10 +1,15 @@
-ghost use Rattle.std.specs.Prelude.{◌≡◌, ◌+◌, ◌<◌, [], length, slice_get, Some};
-ghost use Rattle.std.specs.List.{filter};
-ghost use Rattle.gc_spec.specs.PropertyGraph.{IsGraph};
+ghost use Rattle.std.specs.Prelude.{◌≡◌, ◌+◌, ◌<◌, ◌==◌, length, slice_get, Some};
+ghost use Rattle.std.specs.List.{filter, find};
+ghost use Rattle.std.specs.Option.{option_copied};
+ghost use Rattle.std.specs.Ordering.{nat_cmp, on};
+ghost use Rattle.gc_base.specs.Ascending.{Ascends};
+ghost use Rattle.gc_spec.specs.PropertyGraph.{IsGraph, node_at, edge_at, path_at};
 ghost use Rattle.gc_ppg.specs.Labelled.{has_label, nodes_with_label};
+ghost use Rattle.gc_ppg.specs.Reads.{handed_out};
 
-use crate::element::NodeInfo;
-use gc_base::{Name, Steps};
+use crate::element::{EdgeInfo, NodeInfo, PathInfo};
+use crate::kind::Element;
+use gc_base::{Id, Name, Steps};
 use std::marker::Model;
 use std::sync::ledger::Ledger;
 
@@ -13,35 +18,59 @@ use std::sync::ledger::Ledger;
 #[derive(Debug, Drop)]
 pub struct Graph {
     nodes: Vec<NodeInfo>,
+    edges: Vec<EdgeInfo>,
+    paths: Vec<PathInfo>,
 }
 
 impl Model for Graph {
-    ghost use Rattle.std.specs.Prelude.{[]};
     ghost use Rattle.gc_spec.specs.PropertyGraph.{PropertyGraph, IsGraph};
 
     ghost Value = { PropertyGraph };
 
-    ghost view = { λ g. record { nodes = g.nodes.items; edges = []; paths = [] } };
+    ghost view = { λ g. record { nodes = g.nodes.items; edges = g.edges.items; paths = g.paths.items } };
 
-    ghost invariant = { λ g. IsGraph (record { nodes = g.nodes.items; edges = []; paths = [] }) };
+    ghost invariant = { λ g. IsGraph (record { nodes = g.nodes.items; edges = g.edges.items; paths = g.paths.items }) };
 }
 
 impl Graph {
-    // The graph of nodes that ascend.
-    pub(crate) fn of_nodes(nodes: Vec<NodeInfo>) -> Graph
-        requires { IsGraph (record { nodes = nodes.items; edges = []; paths = [] }) }
-        ensures { result ≡ record { nodes = nodes.items; edges = []; paths = [] } }
+    // The graph of these elements.
+    pub(crate) fn of_elements(
+        nodes: Vec<NodeInfo>,
+        edges: Vec<EdgeInfo>,
+        paths: Vec<PathInfo>,
+    ) -> Graph
+        requires { IsGraph (record { nodes = nodes.items; edges = edges.items; paths = paths.items }) }
+        ensures { result ≡ record { nodes = nodes.items; edges = edges.items; paths = paths.items } }
     {
-        Graph { nodes }
+        Graph {
+            nodes,
+            edges,
+            paths,
+        }
     }
 
-    /// How many nodes there are. A graph has no edges and no paths yet.
+    /// How many nodes there are.
     pub fn node_count(&self) -> usize
         ensures count { result ≡ length self.now.nodes }
         ensures valid { IsGraph self.now }
-        ensures alone { (self.now.edges ≡ []) × (self.now.paths ≡ []) }
     {
         self.nodes.len()
+    }
+
+    /// How many edges there are.
+    pub fn edge_count(&self) -> usize
+        ensures count { result ≡ length self.now.edges }
+        ensures valid { IsGraph self.now }
+    {
+        self.edges.len()
+    }
+
+    /// How many stored paths there are.
+    pub fn path_count(&self) -> usize
+        ensures count { result ≡ length self.now.paths }
+        ensures valid { IsGraph self.now }
+    {
+        self.paths.len()
     }
 
     /// The node at a place below the count, by ascending identity. It takes one step.
@@ -54,13 +83,64 @@ impl Graph {
         &self.nodes[i]
     }
 
+    /// The edge at a place below the count, by ascending identity. It takes one step.
+    pub fn edge<L: Ledger>(&self, i: usize, steps: &mut Steps<L>) -> &EdgeInfo
+        requires { i < length self.now.edges }
+        ensures edge { slice_get self.now.edges i ≡ Some result.now }
+        ensures step { steps.new ≡ steps.old + 1 }
+    {
+        steps.tick();
+        &self.edges[i]
+    }
+
+    /// The stored path at a place below the count, by ascending identity. It takes one step.
+    pub fn path<L: Ledger>(&self, i: usize, steps: &mut Steps<L>) -> &PathInfo
+        requires { i < length self.now.paths }
+        ensures path { slice_get self.now.paths i ≡ Some result.now }
+        ensures step { steps.new ≡ steps.old + 1 }
+    {
+        steps.tick();
+        &self.paths[i]
+    }
+
+    /// The node of an identity, or `None` exactly where it is not there. A node takes one step.
+    pub fn find_node<L: Ledger>(&self, id: Id, steps: &mut Steps<L>) -> Option<&NodeInfo>
+        ensures node { option_copied result ≡ node_at self.now.nodes id }
+        ensures step { steps.new ≡ steps.old + handed_out result }
+    {
+        counted(find(&self.nodes, id), steps)
+    }
+
+    /// The edge of an identity, or `None` exactly where it is not there. An edge takes one step.
+    pub fn find_edge<L: Ledger>(&self, id: Id, steps: &mut Steps<L>) -> Option<&EdgeInfo>
+        ensures edge { option_copied result ≡ edge_at self.now.edges id }
+        ensures step { steps.new ≡ steps.old + handed_out result }
+    {
+        counted(find(&self.edges, id), steps)
+    }
+
+    /// The stored path of an identity, or `None` exactly where it is not there. A path takes one
+    /// step.
+    pub fn find_path<L: Ledger>(&self, id: Id, steps: &mut Steps<L>) -> Option<&PathInfo>
+        ensures path { option_copied result ≡ path_at self.now.paths id }
+        ensures step { steps.new ≡ steps.old + handed_out result }
+    {
+        counted(find(&self.paths, id), steps)
+    }
+
     /// The graph of exactly the nodes that have a label, with their labels and properties, and
     /// without edges and paths. It takes no memory.
     pub fn labelled(self, label: &Name) -> Graph
         ensures { result ≡ nodes_with_label self label.now }
     {
-        let Graph { nodes } = self;
-        Graph::of_nodes(keep_labelled(nodes, label))
+        let Graph {
+            nodes,
+            mut edges,
+            mut paths,
+        } = self;
+        edges.clear();
+        paths.clear();
+        Graph::of_elements(keep_labelled(nodes, label), edges, paths)
     }
 }
 
@@ -70,4 +150,26 @@ fn keep_labelled(mut nodes: Vec<NodeInfo>, label: &Name) -> Vec<NodeInfo>
 {
     nodes.retain(|node| node.labels.contains(label));
     nodes
+}
+
+// The element of an identity, where elements ascend.
+fn find<T: Element>(elements: &[T], id: Id) -> Option<&T>
+    requires { Ascends (on T.id_of nat_cmp) elements.now }
+    ensures { option_copied result ≡ find (λ x. T.id_of x == id) elements.now }
+{
+    match elements.binary_search_by(|element| element.id().cmp(&id)) {
+        Ok(place) => Some(&elements[place]),
+        Err(_) => None,
+    }
+}
+
+// An answer, with one step where an element is handed out.
+fn counted<'a, T, L: Ledger>(answer: Option<&'a T>, steps: &mut Steps<L>) -> Option<&'a T>
+    ensures same { result ≡ answer.entry }
+    ensures step { steps.new ≡ steps.old + handed_out result }
+{
+    if answer.is_some() {
+        steps.tick();
+    }
+    answer
 }

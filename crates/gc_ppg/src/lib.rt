@@ -4,9 +4,11 @@
 #![tactic(auto)]
 
 mod builder;
+mod by_id;
 mod element;
 mod graph;
+mod kind;
 
 pub use builder::{BuildRefusal, GraphBuilder};
-pub use element::NodeInfo;
+pub use element::{EdgeInfo, NodeInfo, PathInfo};
 pub use graph::Graph;
