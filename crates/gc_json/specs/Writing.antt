@@ -1,9 +1,9 @@
 -- What a writer of JSON tokens gains.
-use Rattle.std.specs.Prelude.{◌≡◌, ◌++◌, List, map, OnOk, Result}
+use Rattle.std.specs.Prelude.{◌≡◌, ℕ, ◌∷◌, ◌++◌, List, map, codes, OnOk, Result}
 use Rattle.gc_base.specs.declared.properties.Property.{Property}
 use Rattle.gc_base.specs.declared.walk.Step.{Step}
-use Rattle.gc_json.specs.CanonicalText.{property_members, step_items}
-use Rattle.json.specs.Token.{Token}
+use Rattle.gc_json.specs.CanonicalText.{property_members, step_items, id_data, labels_data, properties_data}
+use Rattle.json.specs.Token.{Token, key}
 use Rattle.json.specs.Tree.{json_tokens, items_tokens, members_tokens}
 use Rattle.json.specs.Written.{Written}
 use Rattle.serde_json.specs.Data.{Data}
@@ -29,3 +29,9 @@ rest_of_properties ps = members_tokens (members_outline (property_members ps))
 -- the tokens of a walk's steps from here on, and the closing bracket
 abbrev pub rest_of_walk : List Step → List Token
 rest_of_walk steps = items_tokens (items_outline (step_items steps))
+
+-- the tokens of what each element has: its identity, labels and properties
+abbrev pub common_tokens : ℕ → List (List ℕ) → List Property → List Token
+common_tokens id labels properties =
+    key (codes "id") ∷ tokens_of (id_data id)
+    ++ (key (codes "labels") ∷ tokens_of (labels_data labels) ++ (key (codes "properties") ∷ tokens_of (properties_data properties)))

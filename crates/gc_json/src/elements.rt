@@ -1,9 +1,9 @@
 ghost use Rattle.std.specs.Prelude.{◌≡◌, ◌∷◌, ◌++◌};
 ghost use Rattle.gc_json.specs.CanonicalText.{node_data, edge_data, path_data, walk_data, id_data, labels_data, properties_data, values_data, literal_data};
-ghost use Rattle.gc_json.specs.Writing.{Adds, tokens_of};
+ghost use Rattle.gc_json.specs.Writing.{Adds, tokens_of, common_tokens};
 ghost use Rattle.json.specs.Token.{key};
 
-use gc_base::{LabelSet, Literal, Memory, Name, Properties, Property, Step, ValueSet, Walk};
+use gc_base::{Id, LabelSet, Literal, Memory, Name, Properties, Property, Step, ValueSet, Walk};
 use gc_ppg::{EdgeInfo, NodeInfo, PathInfo};
 use json::Writer;
 use std::str;
@@ -13,12 +13,7 @@ pub(crate) fn write_node(writer: &mut Writer, node: &NodeInfo) -> Result<(), Mem
     ensures { Adds result writer.old writer.new (tokens_of (node_data node.now)) }
 {
     writer.begin_object()?;
-    writer.key("id")?;
-    writer.u64(node.id.get())?;
-    writer.key("labels")?;
-    write_labels(writer, &node.labels)?;
-    writer.key("properties")?;
-    write_properties(writer, &node.properties)?;
+    write_common(writer, node.id, &node.labels, &node.properties)?;
     writer.end_object()?;
     Ok(())
 }
@@ -30,12 +25,7 @@ pub(crate) fn write_edge(writer: &mut Writer, edge: &EdgeInfo) -> Result<(), Mem
     writer.begin_object()?;
     writer.key("from")?;
     writer.u64(edge.from.get())?;
-    writer.key("id")?;
-    writer.u64(edge.id.get())?;
-    writer.key("labels")?;
-    write_labels(writer, &edge.labels)?;
-    writer.key("properties")?;
-    write_properties(writer, &edge.properties)?;
+    write_common(writer, edge.id, &edge.labels, &edge.properties)?;
     writer.key("to")?;
     writer.u64(edge.to.get())?;
     writer.end_object()?;
@@ -47,15 +37,28 @@ pub(crate) fn write_path(writer: &mut Writer, path: &PathInfo) -> Result<(), Mem
     ensures { Adds result writer.old writer.new (tokens_of (path_data path.now)) }
 {
     writer.begin_object()?;
-    writer.key("id")?;
-    writer.u64(path.id.get())?;
-    writer.key("labels")?;
-    write_labels(writer, &path.labels)?;
-    writer.key("properties")?;
-    write_properties(writer, &path.properties)?;
+    write_common(writer, path.id, &path.labels, &path.properties)?;
     writer.key("walk")?;
     write_walk(writer, &path.walk)?;
     writer.end_object()?;
+    Ok(())
+}
+
+// What each element has: its identity, labels and properties.
+fn write_common(
+    writer: &mut Writer,
+    id: Id,
+    labels: &LabelSet,
+    properties: &Properties,
+) -> Result<(), Memory>
+    ensures { Adds result writer.old writer.new (common_tokens id labels.now properties.now) }
+{
+    writer.key("id")?;
+    writer.u64(id.get())?;
+    writer.key("labels")?;
+    write_labels(writer, labels)?;
+    writer.key("properties")?;
+    write_properties(writer, properties)?;
     Ok(())
 }
 
