@@ -1,7 +1,7 @@
 ghost use Rattle.std.specs.Prelude.{◌≡◌, drop, option_copied};
 ghost use Rattle.gc_base.specs.Files.{file_of};
 
-use gc_base::{Bytes, Sequence, Str};
+use gc_base::{Bytes, Duplicate, Memory, Sequence, Str};
 use std::marker::Model;
 
 /// A file of a folder in memory: its name and its bytes. Contracts see the pair of both.
@@ -17,6 +17,14 @@ impl Model for FileEntry {
     ghost Value = { List ℕ × List ℕ };
 
     ghost view = { λ e. (e.name, e.bytes) };
+}
+
+impl Duplicate for FileEntry {
+    fn copy(&self) -> Result<FileEntry, Memory> {
+        let name = self.name.copy()?;
+        let bytes = self.bytes.copy()?;
+        Ok(FileEntry { name, bytes })
+    }
 }
 
 /// A list of files.

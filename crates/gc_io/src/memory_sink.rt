@@ -82,6 +82,8 @@ impl Sink for MemorySink {
         ensures full { is_failing self.old.failing self.old.calls ≡ false → OnErr result (self.old.spare < min (length piece.now) self.old.most) }
         ensures fault { OnErr result (self.new.faults ≡ one_more self.old.faults) }
         ensures calls { self.new.calls ≡ one_more self.old.calls }
+        ensures spare { IfOk result (λ n. self.old.spare ≤ self.new.spare + n) }
+        ensures spare_kept { OnErr result (self.old.spare ≤ self.new.spare) }
         ensures script { IsScripted self.old self.new }
     {
         let call = self.calls;

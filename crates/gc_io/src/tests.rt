@@ -1,5 +1,5 @@
 use crate::*;
-use gc_base::{Bytes, Str};
+use gc_base::{Bytes, Duplicate, Str};
 use std::alloc::Global;
 use std::io::Write;
 use std::rt::Files;
@@ -31,7 +31,7 @@ fn calls(alloc: Global, numbers: &[u64]) -> Result<CallList, Fail> {
 #[test]
 fn a_file_is_read_whole(rt: HostRuntime) -> Result<(), Fail> {
     let alloc = rt.alloc();
-    let mut folder = SureFolder::new(listed(alloc)?);
+    let mut folder = SureFolder::new(listed(alloc)?.copy()?);
     let bytes = read_whole(alloc, &mut folder, "a", 5)?;
     assert_eq!(rt; bytes.as_slice(), b"first".as_slice());
     let larger = read_whole(alloc, &mut folder, "a", 4);

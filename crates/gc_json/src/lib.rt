@@ -4,6 +4,8 @@
 #![tactic(auto)]
 
 mod elements;
+#[cfg(test)]
+mod tests;
 mod text;
 mod thin;
 

@@ -39,6 +39,17 @@ abbrev pub command_of : List (List ℕ) → Option Command
 command_of (verb ∷ query ∷ pair ∷ []) = if pointwise nat_eq verb (codes "run") then run_of query pair else None
 command_of words = None
 
+-- the query file and the graph files of a command
+abbrev pub query_of : Command → List ℕ
+query_of (Run query graphs) = query
+
+abbrev pub graphs_of : Command → List Pair
+graphs_of (Run query graphs) = graphs
+
+-- a command has one graph file
+abbrev pub HasOneGraph : Command → Type 0
+HasOneGraph (Run query graphs) = length graphs ≡ 1
+
 -- what is due, or `Usage` exactly where nothing is; want of memory is free
 abbrev pub Answers : {X : Type 0} → Option X → Result X CommandRefusal → Type 0
 Answers due (Ok x) = due ≡ Some x

@@ -5,7 +5,6 @@ use Rattle.gc_spec.specs.PropertyGraph.{PropertyGraph}
 use Rattle.gc_ppg.specs.Labelled.{nodes_with_label}
 use Rattle.gc_json.specs.CanonicalText.{canonical_text}
 use Rattle.gc_json.specs.ThinFiles.{thin_graph}
-use Rattle.gcore.specs.CommandLines.{command_of}
 use Rattle.gcore.specs.ThinQueries.{thin_label}
 use Rattle.gcore.specs.declared.command.Command.{Command}
 use Rattle.gcore.specs.declared.command.Command.TheVariants.{Run}
@@ -49,7 +48,7 @@ abbrev pub label_due : Files → List ℕ → Result (List ℕ) Stop
 label_due files name = then_due (file_due files name query_limit) (λ bytes. built (thin_label bytes))
 
 -- the text of the nodes of a label, and a line feed
-abbrev pub printed : PropertyGraph → List ℕ → List ℕ
+unfoldable pub printed : PropertyGraph → List ℕ → List ℕ
 printed g label = canonical_text (nodes_with_label g label) ++ 10 ∷ []
 
 -- first the graph file, then the query file, then the answer
@@ -67,9 +66,9 @@ abbrev pub form_due : Option Command → Result Command Stop
 form_due None = Err Usage
 form_due (Some command) = Ok command
 
--- the outcome of a call: first the words, then the command
-abbrev pub outcome : List (List ℕ) → Files → Result (List ℕ) Stop
-outcome words files = then_due (form_due (command_of words)) (command_due files)
+-- the outcome of a call, by the command that its words are, if any
+abbrev pub outcome : Option Command → Files → Result (List ℕ) Stop
+outcome command files = then_due (form_due command) (command_due files)
 
 -- the text of an outcome, which a stop has none of
 abbrev pub text_of : Result (List ℕ) Stop → List ℕ

@@ -1,4 +1,4 @@
-ghost use Rattle.std.specs.Prelude.{map, string_bytes, option_map};
+ghost use Rattle.std.specs.Prelude.{map, string_bytes, option_map, IfOk};
 
 use gc_base::{Memory, Name, Sequence, Str, is_reserved};
 use std::alloc::Global;
@@ -41,12 +41,13 @@ impl From<Memory> for CommandRefusal {
 }
 
 impl Command {
-    ghost use Rattle.gcore.specs.CommandLines.{IsCommand};
+    ghost use Rattle.gcore.specs.CommandLines.{HasOneGraph, IsCommand};
 
     /// The command of the words after the program's name, or `Usage` exactly where they have none
     /// of the forms.
     pub fn of(alloc: Global, words: &[String]) -> Result<Command, CommandRefusal>
-        ensures { IsCommand (map string_bytes words.now) result }
+        ensures command { IsCommand (map string_bytes words.now) result }
+        ensures one { IfOk result HasOneGraph }
     {
         if words.len() != 3 {
             return Err(CommandRefusal::Usage);
@@ -57,11 +58,33 @@ impl Command {
         Command::run_of(alloc, words[1].as_str(), words[2].as_str())
     }
 
+    ghost use Rattle.std.specs.Prelude.{◌≡◌};
+    ghost use Rattle.gcore.specs.CommandLines.{query_of, graphs_of};
+
+    /// The word of the query file.
+    pub fn query(&self) -> &Str
+        ensures { result.now ≡ query_of self.now }
+    {
+        match self {
+            Command::Run { query, graphs: _ } => query,
+        }
+    }
+
+    /// The graph files, in the order of the words.
+    pub fn graphs(&self) -> &PairList
+        ensures { result.now ≡ graphs_of self.now }
+    {
+        match self {
+            Command::Run { query: _, graphs } => graphs,
+        }
+    }
+
     ghost use Rattle.gcore.specs.CommandLines.{IsRun};
 
     // `run Q N=F`.
     fn run_of(alloc: Global, query: &str, pair: &str) -> Result<Command, CommandRefusal>
-        ensures { IsRun query.now pair.now result }
+        ensures run { IsRun query.now pair.now result }
+        ensures one { IfOk result HasOneGraph }
     {
         if query.is_empty() {
             return Err(CommandRefusal::Usage);

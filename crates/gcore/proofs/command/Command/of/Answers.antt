@@ -22,12 +22,12 @@ unnegated false h = cc
 dispatched : (v q p : List ℕ) (r : Result Command CommandRefusal) → pointwise nat_eq v (codes "run") ≡ true → IsRun q p r → IsCommand (v ∷ q ∷ p ∷ []) r
 dispatched v q p r e h = subst (λ b. Answers (if b then run_of q p else None) r) (sym e) h
 
-pub returns : goal.returns
-returns c =
+pub returns-clause-command : goal.returns-clause-command
+returns-clause-command c =
     let r = c.run_of.result in
     let words = three c.args.words.now c.index-words-0.result c.index-words-1.result c.index-words-2.result c.if-words-ne3.false c.index-words-0.is c.index-words-1.is c.index-words-2.is in
     subst (λ ws. IsCommand (map string_bytes ws) r) (sym words)
     (subst (λ v. IsCommand (v ∷ string_bytes c.index-words-1.result ∷ string_bytes c.index-words-2.result ∷ []) r) c.as_str.ensures.value
     (subst (λ q. IsCommand (c.as_str.result.now ∷ q ∷ string_bytes c.index-words-2.result ∷ []) r) c.as_str-2.ensures.value
     (subst (λ p. IsCommand (c.as_str.result.now ∷ c.as_str-2.result.now ∷ p ∷ []) r) c.as_str-3.ensures.value
-    (dispatched c.as_str.result.now c.as_str-2.result.now c.as_str-3.result.now r (unnegated _ c.if-ne.ensures) c.run_of.ensures))))
+    (dispatched c.as_str.result.now c.as_str-2.result.now c.as_str-3.result.now r (unnegated _ c.if-ne.ensures) c.run_of.ensures.run))))

@@ -1,0 +1,34 @@
+-- What each step of a call answers.
+use Rattle.std.specs.Prelude.{◌≡◌, ℕ, List, Option, Some, None, Result, Ok, Err, IfSome, MatchOption, ⊤, ◌⊎◌}
+use Rattle.gc_base.specs.Faults.{Rose}
+use Rattle.gc_base.specs.Files.{Files}
+use Rattle.gcore.specs.declared.stop.Stop.{Stop}
+use Rattle.gcore.specs.declared.stop.Stop.TheVariants.{Usage, Unread, TooLarge, NotBuilt, Unwritten, OutOfMemory}
+
+-- a folder in a step: its files, where it tells them, and its count of faults before and after
+pub record Reading : Type 0 where
+  pub files : Option Files
+  pub faults_before : ℕ
+  pub faults_after : ℕ
+
+-- a stop of a step that reads a file: it is due, or the folder's count rose, or it is want of memory
+abbrev pub StopsReading : {A : Type 0} → Reading → List ℕ → (Files → Result A Stop) → Stop → Type 0
+StopsReading reading name due Usage = ⊥
+StopsReading reading name due (Unread file) =
+    (file ≡ name) × MatchOption reading.files (Rose reading.faults_before reading.faults_after) (λ files. (due files ≡ Err (Unread file)) ⊎ Rose reading.faults_before reading.faults_after)
+StopsReading reading name due (TooLarge file) = (file ≡ name) × IfSome reading.files (λ files. due files ≡ Err (TooLarge file))
+StopsReading reading name due NotBuilt = IfSome reading.files (λ files. due files ≡ Err NotBuilt)
+StopsReading reading name due Unwritten = ⊥
+StopsReading reading name due OutOfMemory = ⊤
+
+-- what is built of bytes is given, or refused as not built
+abbrev pub Builds : {A : Type 0} → Option A → Result A Stop → Type 0
+Builds due (Ok x) = due ≡ Some x
+Builds due (Err NotBuilt) = due ≡ None
+Builds due (Err OutOfMemory) = ⊤
+Builds due (Err stop) = ⊥
+
+-- a step that reads a file gives what is due, where the files are told, or stops
+abbrev pub Reads : {A : Type 0} → Reading → List ℕ → (Files → Result A Stop) → Result A Stop → Type 0
+Reads reading name due (Ok x) = IfSome reading.files (λ files. due files ≡ Ok x)
+Reads reading name due (Err stop) = StopsReading reading name due stop

@@ -1,0 +1,71 @@
+ghost use Rattle.std.specs.Prelude.{◌≡◌, ◌≤◌};
+ghost use Rattle.gcore.specs.Outcomes.{file_due, graph_due, label_due};
+ghost use Rattle.gcore.specs.Steps.{Builds, Reads, Reading};
+ghost use Rattle.gcore.specs.ThinQueries.{thin_label};
+
+use crate::stop::Stop;
+use crate::thin::thin_query_label;
+use gc_base::{Bytes, Duplicate, Name, Str};
+use gc_io::{Folder, ReadRefusal, read_whole};
+use gc_json::{ThinRefusal, load_thin};
+use gc_ppg::Graph;
+use std::alloc::Global;
+
+/// How many bytes a graph file may have.
+const GRAPH_LIMIT: u64 = 33_554_432;
+
+/// How many bytes a query file may have.
+const QUERY_LIMIT: u64 = 1_048_576;
+
+/// The graph of a graph file.
+pub fn read_graph<F: Folder>(alloc: Global, folder: &mut F, name: &Str) -> Result<Graph, Stop>
+    ensures outcome { Reads (record { files = F.files folder.old; faults_before = F.faults folder.old; faults_after = F.faults folder.new }) name.now (λ files. graph_due files name.now) result }
+    ensures later { F.faults folder.old ≤ F.faults folder.new }
+    ensures kept { F.files folder.new ≡ F.files folder.old }
+{
+    let bytes = read_file(alloc, folder, name, GRAPH_LIMIT)?;
+    match load_thin(alloc, bytes.as_slice()) {
+        Ok(graph) => Ok(graph),
+        Err(ThinRefusal::NotThin) => Err(Stop::NotBuilt),
+        Err(ThinRefusal::Memory) => Err(Stop::OutOfMemory),
+    }
+}
+
+/// The label of a query file.
+pub fn read_label<F: Folder>(alloc: Global, folder: &mut F, name: &Str) -> Result<Name, Stop>
+    ensures outcome { Reads (record { files = F.files folder.old; faults_before = F.faults folder.old; faults_after = F.faults folder.new }) name.now (λ files. label_due files name.now) result }
+    ensures later { F.faults folder.old ≤ F.faults folder.new }
+    ensures kept { F.files folder.new ≡ F.files folder.old }
+{
+    let bytes = read_file(alloc, folder, name, QUERY_LIMIT)?;
+    label_in(alloc, bytes.as_slice())
+}
+
+fn label_in(alloc: Global, bytes: &[u8]) -> Result<Name, Stop>
+    ensures { Builds (thin_label bytes.now) result }
+{
+    match thin_query_label(alloc, bytes)? {
+        Some(label) => Ok(label),
+        None => Err(Stop::NotBuilt),
+    }
+}
+
+// A file of at most `limit` bytes.
+fn read_file<F: Folder>(
+    alloc: Global,
+    folder: &mut F,
+    name: &Str,
+    limit: u64,
+) -> Result<Bytes, Stop>
+    ensures outcome { Reads (record { files = F.files folder.old; faults_before = F.faults folder.old; faults_after = F.faults folder.new }) name.now (λ files. file_due files name.now limit) result }
+    ensures later { F.faults folder.old ≤ F.faults folder.new }
+    ensures kept { F.files folder.new ≡ F.files folder.old }
+{
+    match read_whole(alloc, folder, name.text(), limit) {
+        Ok(bytes) => Ok(bytes),
+        Err(ReadRefusal::Missing) => Err(Stop::Unread(name.copy()?)),
+        Err(ReadRefusal::Failed) => Err(Stop::Unread(name.copy()?)),
+        Err(ReadRefusal::TooLarge) => Err(Stop::TooLarge(name.copy()?)),
+        Err(ReadRefusal::Memory) => Err(Stop::OutOfMemory),
+    }
+}
