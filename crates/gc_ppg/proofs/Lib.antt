@@ -2,5 +2,6 @@ pub mod ElementLists
 pub mod ElementMaps
 pub mod Finds
 pub mod Kept
+pub mod ShapeTables
 pub mod Valid
 pub mod WalkTests

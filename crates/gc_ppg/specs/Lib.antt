@@ -2,3 +2,6 @@ pub mod Built
 pub mod Labelled
 pub mod Reads
 pub mod Refusals
+pub mod ShapeOf
+pub mod Shapes
+pub mod Tables

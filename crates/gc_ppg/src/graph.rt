@@ -1,14 +1,12 @@
-ghost use Rattle.std.specs.Prelude.{◌≡◌, ◌+◌, ◌<◌, ◌==◌, length, slice_get, Some};
-ghost use Rattle.std.specs.List.{filter, find};
+ghost use Rattle.std.specs.Prelude.{◌≡◌, ◌+◌, ◌<◌, length, slice_get, Some};
+ghost use Rattle.std.specs.List.{filter};
 ghost use Rattle.std.specs.Option.{option_copied};
-ghost use Rattle.std.specs.Ordering.{nat_cmp, on};
-ghost use Rattle.gc_base.specs.Ascending.{Ascends};
 ghost use Rattle.gc_spec.specs.PropertyGraph.{IsGraph, node_at, edge_at, path_at};
 ghost use Rattle.gc_ppg.specs.Labelled.{has_label, nodes_with_label};
 ghost use Rattle.gc_ppg.specs.Reads.{handed_out};
 
 use crate::element::{EdgeInfo, NodeInfo, PathInfo};
-use crate::kind::Element;
+use crate::search::find;
 use gc_base::{Id, Name, Steps};
 use std::marker::Model;
 use std::sync::ledger::Ledger;
@@ -128,6 +126,30 @@ impl Graph {
         counted(find(&self.paths, id), steps)
     }
 
+    // All nodes, by ascending identity.
+    pub(crate) fn nodes(&self) -> &[NodeInfo]
+        ensures nodes { result.now ≡ self.now.nodes }
+        ensures valid { IsGraph self.now }
+    {
+        &self.nodes
+    }
+
+    // All edges, by ascending identity.
+    pub(crate) fn edges(&self) -> &[EdgeInfo]
+        ensures edges { result.now ≡ self.now.edges }
+        ensures valid { IsGraph self.now }
+    {
+        &self.edges
+    }
+
+    // All stored paths, by ascending identity.
+    pub(crate) fn paths(&self) -> &[PathInfo]
+        ensures paths { result.now ≡ self.now.paths }
+        ensures valid { IsGraph self.now }
+    {
+        &self.paths
+    }
+
     /// The graph of exactly the nodes that have a label, with their labels and properties, and
     /// without edges and paths. It takes no memory.
     pub fn labelled(self, label: &Name) -> Graph
@@ -150,17 +172,6 @@ fn keep_labelled(mut nodes: Vec<NodeInfo>, label: &Name) -> Vec<NodeInfo>
 {
     nodes.retain(|node| node.labels.contains(label));
     nodes
-}
-
-// The element of an identity, where elements ascend.
-fn find<T: Element>(elements: &[T], id: Id) -> Option<&T>
-    requires { Ascends (on T.id_of nat_cmp) elements.now }
-    ensures { option_copied result ≡ find (λ x. T.id_of x == id) elements.now }
-{
-    match elements.binary_search_by(|element| element.id().cmp(&id)) {
-        Ok(place) => Some(&elements[place]),
-        Err(_) => None,
-    }
 }
 
 // An answer, with one step where an element is handed out.

@@ -5,10 +5,15 @@
 
 mod builder;
 mod by_id;
+mod coherence;
 mod element;
 mod graph;
 mod kind;
+mod search;
+mod shape;
 
 pub use builder::{BuildRefusal, GraphBuilder};
+pub use coherence::Coherence;
 pub use element::{EdgeInfo, NodeInfo, PathInfo};
 pub use graph::Graph;
+pub use shape::{Kind, Shape};
