@@ -1,4 +1,5 @@
 pub mod Built
+pub mod KeyedPlaces
 pub mod Labelled
 pub mod Reads
 pub mod Refusals

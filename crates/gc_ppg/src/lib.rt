@@ -9,6 +9,7 @@ mod coherence;
 mod element;
 mod graph;
 mod kind;
+mod places;
 mod search;
 mod shape;
 
