@@ -1,7 +1,9 @@
 pub mod ElementLists
 pub mod ElementMaps
+pub mod EndPlaces
 pub mod Finds
 pub mod Kept
+pub mod LabelledReads
 pub mod Runs
 pub mod ShapeTables
 pub mod Valid

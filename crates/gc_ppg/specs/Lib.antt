@@ -1,6 +1,7 @@
 pub mod Built
 pub mod KeyedPlaces
 pub mod Labelled
+pub mod LabelledIds
 pub mod Reads
 pub mod Refusals
 pub mod ShapeOf

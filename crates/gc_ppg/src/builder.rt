@@ -133,7 +133,7 @@ impl GraphBuilder {
         let nodes = nodes.into_vec(alloc)?;
         let edges = edges.into_vec(alloc)?;
         let paths = paths.into_vec(alloc)?;
-        Ok(Graph::of_elements(nodes, edges, paths))
+        Graph::of_elements(alloc, nodes, edges, paths)
     }
 
     // Whether an identity is in the builder.

@@ -1,5 +1,5 @@
-use crate::kind::Element;
-use gc_base::{Duplicate, Id, LabelSet, Memory, Properties, Walk};
+use crate::kind::{Element, Labelled};
+use gc_base::{Duplicate, Id, LabelSet, Memory, Name, Properties, Walk};
 use std::marker::Model;
 
 /// A node: its identity, labels and properties.
@@ -113,6 +113,30 @@ impl Element for PathInfo {
 
     fn id(&self) -> Id {
         self.id
+    }
+}
+
+impl Labelled for NodeInfo {
+    ghost labels_of = { λ n. n.labels };
+
+    fn has_label(&self, label: &Name) -> bool {
+        self.labels.contains(label)
+    }
+}
+
+impl Labelled for EdgeInfo {
+    ghost labels_of = { λ e. e.labels };
+
+    fn has_label(&self, label: &Name) -> bool {
+        self.labels.contains(label)
+    }
+}
+
+impl Labelled for PathInfo {
+    ghost labels_of = { λ p. p.labels };
+
+    fn has_label(&self, label: &Name) -> bool {
+        self.labels.contains(label)
     }
 }
 

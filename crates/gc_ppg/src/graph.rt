@@ -1,13 +1,18 @@
-ghost use Rattle.std.specs.Prelude.{◌≡◌, ◌+◌, ◌<◌, length, slice_get, Some};
+ghost use Rattle.std.specs.Prelude.{◌≡◌, ◌+◌, ◌<◌, ◌==◌, length, slice_get, Some, IfOk};
 ghost use Rattle.std.specs.List.{filter};
-ghost use Rattle.std.specs.Option.{option_copied};
+ghost use Rattle.std.specs.Option.{option_copied, option_and_then};
 ghost use Rattle.gc_spec.specs.PropertyGraph.{IsGraph, node_at, edge_at, path_at};
 ghost use Rattle.gc_ppg.specs.Labelled.{has_label, nodes_with_label};
 ghost use Rattle.gc_ppg.specs.Reads.{handed_out};
+ghost use Rattle.gc_ppg.specs.KeyedPlaces.{AreEnds};
 
 use crate::element::{EdgeInfo, NodeInfo, PathInfo};
+use crate::labelled::{count_labelled, nth_labelled};
+use crate::places::{PlaceAt, Places};
 use crate::search::find;
-use gc_base::{Id, Name, Steps};
+use crate::shape::Kind;
+use gc_base::{Id, Memory, Name, Numbered, Steps};
+use std::alloc::Global;
 use std::marker::Model;
 use std::sync::ledger::Ledger;
 
@@ -18,7 +23,12 @@ pub struct Graph {
     nodes: Vec<NodeInfo>,
     edges: Vec<EdgeInfo>,
     paths: Vec<PathInfo>,
+    leaving: Places,
+    coming: Places,
 }
+
+/// A list of graphs, which are named by their numbers.
+pub type GraphList = Numbered<Graph>;
 
 impl Model for Graph {
     ghost use Rattle.gc_spec.specs.PropertyGraph.{PropertyGraph, IsGraph};
@@ -27,24 +37,36 @@ impl Model for Graph {
 
     ghost view = { λ g. record { nodes = g.nodes.items; edges = g.edges.items; paths = g.paths.items } };
 
-    ghost invariant = { λ g. IsGraph (record { nodes = g.nodes.items; edges = g.edges.items; paths = g.paths.items }) };
+    ghost use Rattle.gc_ppg.specs.KeyedPlaces.{AreEnds};
+
+    ghost invariant = { λ g.
+        IsGraph (record { nodes = g.nodes.items; edges = g.edges.items; paths = g.paths.items })
+        × AreEnds (λ e. e.from) g.edges.items g.leaving
+        × AreEnds (λ e. e.to) g.edges.items g.coming };
 }
 
 impl Graph {
+    ghost use Rattle.gc_ppg.specs.LabelledIds.{labelled_ids};
+
     // The graph of these elements.
     pub(crate) fn of_elements(
+        alloc: Global,
         nodes: Vec<NodeInfo>,
         edges: Vec<EdgeInfo>,
         paths: Vec<PathInfo>,
-    ) -> Graph
+    ) -> Result<Graph, Memory>
         requires { IsGraph (record { nodes = nodes.items; edges = edges.items; paths = paths.items }) }
-        ensures { result ≡ record { nodes = nodes.items; edges = edges.items; paths = paths.items } }
+        ensures { IfOk result (λ g. g ≡ record { nodes = nodes.items; edges = edges.items; paths = paths.items }) }
     {
-        Graph {
+        let leaving = by_source(alloc, &edges)?;
+        let coming = by_target(alloc, &edges)?;
+        Ok(Graph {
             nodes,
             edges,
             paths,
-        }
+            leaving,
+            coming,
+        })
     }
 
     /// How many nodes there are.
@@ -126,6 +148,86 @@ impl Graph {
         counted(find(&self.paths, id), steps)
     }
 
+    /// The i-th edge that leaves a node, by ascending identity, or `None` exactly where there is
+    /// none. An edge takes one step.
+    pub fn out_edge<L: Ledger>(
+        &self,
+        node: Id,
+        i: usize,
+        steps: &mut Steps<L>,
+    ) -> Option<&EdgeInfo>
+        ensures edge { option_copied result ≡ slice_get (filter (λ e. e.from == node) self.now.edges) i }
+        ensures step { steps.new ≡ steps.old + handed_out result }
+    {
+        let place = self.leaving.at(node.get(), i);
+        counted(self.edge_at(place), steps)
+    }
+
+    /// The i-th edge that comes to a node, by ascending identity, or `None` exactly where there is
+    /// none. An edge takes one step.
+    pub fn in_edge<L: Ledger>(
+        &self,
+        node: Id,
+        i: usize,
+        steps: &mut Steps<L>,
+    ) -> Option<&EdgeInfo>
+        ensures edge { option_copied result ≡ slice_get (filter (λ e. e.to == node) self.now.edges) i }
+        ensures step { steps.new ≡ steps.old + handed_out result }
+    {
+        let place = self.coming.at(node.get(), i);
+        counted(self.edge_at(place), steps)
+    }
+
+    /// How many elements of a kind have a label.
+    pub fn label_count(&self, kind: Kind, label: &Name) -> usize
+        ensures { result ≡ length (labelled_ids self.now kind label.now) }
+    {
+        match kind {
+            Kind::Node => count_labelled(&self.nodes, label),
+            Kind::Edge => count_labelled(&self.edges, label),
+            Kind::Path => count_labelled(&self.paths, label),
+        }
+    }
+
+    /// The i-th element of a kind that has a label, by ascending identity, or `None` exactly where
+    /// there is none. An element takes one step.
+    pub fn with_label<L: Ledger>(
+        &self,
+        kind: Kind,
+        label: &Name,
+        i: usize,
+        steps: &mut Steps<L>,
+    ) -> Option<Id>
+        ensures element { result ≡ slice_get (labelled_ids self.now kind label.now) i }
+        ensures step { steps.new ≡ steps.old + handed_out result }
+    {
+        let found = self.nth_with_label(kind, label, i);
+        if found.is_some() {
+            steps.tick();
+        }
+        found
+    }
+
+    fn nth_with_label(&self, kind: Kind, label: &Name, i: usize) -> Option<Id>
+        ensures { result ≡ slice_get (labelled_ids self.now kind label.now) i }
+    {
+        match kind {
+            Kind::Node => nth_labelled(&self.nodes, label, i),
+            Kind::Edge => nth_labelled(&self.edges, label, i),
+            Kind::Path => nth_labelled(&self.paths, label, i),
+        }
+    }
+
+    // The edge at a place, if there is one.
+    fn edge_at(&self, place: Option<usize>) -> Option<&EdgeInfo>
+        ensures { option_copied result ≡ option_and_then (slice_get self.now.edges) place }
+    {
+        match place {
+            Some(place) => self.edges.get(place),
+            None => None,
+        }
+    }
+
     // All nodes, by ascending identity.
     pub(crate) fn nodes(&self) -> &[NodeInfo]
         ensures nodes { result.now ≡ self.now.nodes }
@@ -159,11 +261,45 @@ impl Graph {
             nodes,
             mut edges,
             mut paths,
+            mut leaving,
+            mut coming,
         } = self;
         edges.clear();
         paths.clear();
-        Graph::of_elements(keep_labelled(nodes, label), edges, paths)
+        leaving.clear();
+        coming.clear();
+        Graph {
+            nodes: keep_labelled(nodes, label),
+            edges,
+            paths,
+            leaving,
+            coming,
+        }
     }
+}
+
+// The places of edges by their sources.
+fn by_source(alloc: Global, edges: &[EdgeInfo]) -> Result<Places, Memory>
+    ensures { IfOk result (AreEnds (λ e. e.from) edges.now) }
+{
+    let mut places = Vec::with_capacity(alloc, edges.len())?;
+    for (place, edge) in edges.iter().enumerate() {
+        let key = edge.from.get();
+        places.push(PlaceAt { key, place })?;
+    }
+    Places::of(places)
+}
+
+// The places of edges by their targets.
+fn by_target(alloc: Global, edges: &[EdgeInfo]) -> Result<Places, Memory>
+    ensures { IfOk result (AreEnds (λ e. e.to) edges.now) }
+{
+    let mut places = Vec::with_capacity(alloc, edges.len())?;
+    for (place, edge) in edges.iter().enumerate() {
+        let key = edge.to.get();
+        places.push(PlaceAt { key, place })?;
+    }
+    Places::of(places)
 }
 
 // The nodes that have a label, in their order.
