@@ -1,5 +1,5 @@
 -- Edges read through the places of their ends.
-use Rattle.std.proofs.Common.{◌≡◌, ℕ, zero, suc, ◌+◌, ◌≤◌, ◌++◌, length, append-nil, true, false, cond, ◌==◌, List, [], ◌∷◌, drop, Option, Some, None, refl, sym, ap, ◌∙◌, arith}
+use Rattle.std.proofs.Common.{◌≡◌, ℕ, zero, suc, ◌+◌, ◌≤◌, ◌++◌, length, append-nil, true, false, cond, ◌==◌, List, [], ◌∷◌, drop, Option, Some, refl, sym, ap, ◌∙◌, arith}
 use Rattle.std.specs.List.{filter, slice_get}
 use Rattle.std.proofs.lemmas.List.{drop_all}
 use Rattle.std.specs.Option.{option_map, option_and_then}
@@ -42,7 +42,7 @@ module _ (end : Edge → ℕ) (key : ℕ) (all : List Edge) where
       let r = head_at n all e es h in
       elim (end e == key) as
       (λ b. read (cond b (record { key = end e; place = n } ∷ at_key key (ends_from end (n + 1) es)) (at_key key (ends_from end (n + 1) es))) (suc i)
-          ≡ slice_get (cond b (e ∷ filter (λ d. end d == key) es) (filter (λ d. end d == key) es)) (suc i)) [
+      ≡ slice_get (cond b (e ∷ filter (λ d. end d == key) es) (filter (λ d. end d == key) es)) (suc i)) [
         | true ↦ read_from (n + 1) es i r.1
         | false ↦ read_from (n + 1) es (suc i) r.1
       ]

@@ -150,12 +150,7 @@ impl Graph {
 
     /// The i-th edge that leaves a node, by ascending identity, or `None` exactly where there is
     /// none. An edge takes one step.
-    pub fn out_edge<L: Ledger>(
-        &self,
-        node: Id,
-        i: usize,
-        steps: &mut Steps<L>,
-    ) -> Option<&EdgeInfo>
+    pub fn out_edge<L: Ledger>(&self, node: Id, i: usize, steps: &mut Steps<L>) -> Option<&EdgeInfo>
         ensures edge { option_copied result ≡ slice_get (filter (λ e. e.from == node) self.now.edges) i }
         ensures step { steps.new ≡ steps.old + handed_out result }
     {
@@ -165,12 +160,7 @@ impl Graph {
 
     /// The i-th edge that comes to a node, by ascending identity, or `None` exactly where there is
     /// none. An edge takes one step.
-    pub fn in_edge<L: Ledger>(
-        &self,
-        node: Id,
-        i: usize,
-        steps: &mut Steps<L>,
-    ) -> Option<&EdgeInfo>
+    pub fn in_edge<L: Ledger>(&self, node: Id, i: usize, steps: &mut Steps<L>) -> Option<&EdgeInfo>
         ensures edge { option_copied result ≡ slice_get (filter (λ e. e.to == node) self.now.edges) i }
         ensures step { steps.new ≡ steps.old + handed_out result }
     {

@@ -9,4 +9,4 @@ abbrev pub invariant-loop-element : goal.invariant-loop-element
 invariant-loop-element g l =
     (l.skipped ≤ l.i)
     × (slice_get (filter (λ x. has text_order (g.T.Labelled.labels_of x) l.label) (drop l.element-index l.elements)) (l.i - l.skipped)
-      ≡ slice_get (filter (λ x. has text_order (g.T.Labelled.labels_of x) l.label) l.elements) l.i)
+    ≡ slice_get (filter (λ x. has text_order (g.T.Labelled.labels_of x) l.label) l.elements) l.i)

@@ -1,4 +1,4 @@
-use Rattle.std.proofs.Common.{◌≡◌, ◌==◌, ap, ◌∙◌, sym}
+use Rattle.std.proofs.Common.{◌==◌, ap, ◌∙◌, sym}
 use Rattle.std.specs.List.{filter, slice_get}
 use Rattle.std.specs.Option.{option_copied, option_and_then, option_map}
 use Rattle.gc_spec.specs.PropertyGraph.{PropertyGraph}
