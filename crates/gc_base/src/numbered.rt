@@ -1,4 +1,4 @@
-ghost use Rattle.std.specs.Prelude.{◌≡◌, ◌++◌, ◌∷◌, [], ◌<◌, ◌^◌, length, slice_get, Some, IfOk, OnOk, OnErr};
+ghost use Rattle.std.specs.Prelude.{◌≡◌, ◌++◌, ◌∷◌, [], ◌<◌, ◌^◌, length, take, slice_get, Some, IfOk, OnOk, OnErr};
 
 use crate::duplicate::{Duplicate, copies};
 use crate::memory::Memory;
@@ -66,6 +66,13 @@ impl<T: Drop> Numbered<T> {
         }
         self.items.push(item)?;
         Ok(())
+    }
+
+    /// Keeps the first n items, or all where there are no more. It takes no memory.
+    pub fn cut(&mut self, n: u32)
+        ensures { self.new ≡ take n self.old }
+    {
+        self.items.truncate(n as usize);
     }
 }
 

@@ -2,4 +2,5 @@ mod Keys
 pub mod GraphsReadBack
 pub mod ReadsBack
 mod Rest
+mod Turns
 mod WordTexts

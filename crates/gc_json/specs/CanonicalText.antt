@@ -1,5 +1,5 @@
 -- The canonical text of a graph.
-use Rattle.std.specs.Prelude.{ℕ, List, [], ◌∷◌, map, codes}
+use Rattle.std.specs.Prelude.{ℕ, ◌+◌, List, [], ◌∷◌, length, map, codes}
 use Rattle.gc_base.specs.declared.literal.Literal.{Literal}
 use Rattle.gc_base.specs.declared.literal.Literal.TheVariants.{Truth, Number, Text}
 use Rattle.gc_base.specs.declared.properties.Property.{Property}
@@ -82,3 +82,7 @@ graph_data g =
 -- the compact JSON text of a graph; two graphs that are equal have one text
 abbrev pub canonical_text : PropertyGraph → List ℕ
 canonical_text g = compact_text (graph_data g)
+
+-- how many elements a graph has
+abbrev pub element_count : PropertyGraph → ℕ
+element_count g = length g.nodes + length g.edges + length g.paths

@@ -1,10 +1,10 @@
-ghost use Rattle.std.specs.Prelude.{◌≡◌, ◌∷◌};
-ghost use Rattle.gc_json.specs.CanonicalText.{node_data, labels_data, properties_data, values_data, literal_data};
-ghost use Rattle.gc_json.specs.Writing.{Adds, tokens_of};
+ghost use Rattle.std.specs.Prelude.{◌≡◌, ◌∷◌, ◌++◌};
+ghost use Rattle.gc_json.specs.CanonicalText.{node_data, edge_data, path_data, walk_data, id_data, labels_data, properties_data, values_data, literal_data};
+ghost use Rattle.gc_json.specs.Writing.{Adds, tokens_of, common_tokens};
 ghost use Rattle.json.specs.Token.{key};
 
-use gc_base::{LabelSet, Literal, Memory, Name, Properties, Property, ValueSet};
-use gc_ppg::NodeInfo;
+use gc_base::{Id, LabelSet, Literal, Memory, Name, Properties, Property, Step, ValueSet, Walk};
+use gc_ppg::{EdgeInfo, NodeInfo, PathInfo};
 use json::Writer;
 use std::str;
 
@@ -13,13 +13,75 @@ pub(crate) fn write_node(writer: &mut Writer, node: &NodeInfo) -> Result<(), Mem
     ensures { Adds result writer.old writer.new (tokens_of (node_data node.now)) }
 {
     writer.begin_object()?;
-    writer.key("id")?;
-    writer.u64(node.id.get())?;
-    writer.key("labels")?;
-    write_labels(writer, &node.labels)?;
-    writer.key("properties")?;
-    write_properties(writer, &node.properties)?;
+    write_common(writer, node.id, &node.labels, &node.properties)?;
     writer.end_object()?;
+    Ok(())
+}
+
+// An edge, with its source and its target.
+pub(crate) fn write_edge(writer: &mut Writer, edge: &EdgeInfo) -> Result<(), Memory>
+    ensures { Adds result writer.old writer.new (tokens_of (edge_data edge.now)) }
+{
+    writer.begin_object()?;
+    writer.key("from")?;
+    writer.u64(edge.from.get())?;
+    write_common(writer, edge.id, &edge.labels, &edge.properties)?;
+    writer.key("to")?;
+    writer.u64(edge.to.get())?;
+    writer.end_object()?;
+    Ok(())
+}
+
+// A stored path, with its walk.
+pub(crate) fn write_path(writer: &mut Writer, path: &PathInfo) -> Result<(), Memory>
+    ensures { Adds result writer.old writer.new (tokens_of (path_data path.now)) }
+{
+    writer.begin_object()?;
+    write_common(writer, path.id, &path.labels, &path.properties)?;
+    writer.key("walk")?;
+    write_walk(writer, &path.walk)?;
+    writer.end_object()?;
+    Ok(())
+}
+
+// What each element has: its identity, labels and properties.
+fn write_common(
+    writer: &mut Writer,
+    id: Id,
+    labels: &LabelSet,
+    properties: &Properties,
+) -> Result<(), Memory>
+    ensures { Adds result writer.old writer.new (common_tokens id labels.now properties.now) }
+{
+    writer.key("id")?;
+    writer.u64(id.get())?;
+    writer.key("labels")?;
+    write_labels(writer, labels)?;
+    writer.key("properties")?;
+    write_properties(writer, properties)?;
+    Ok(())
+}
+
+// The nodes and the edges of a walk in turn.
+fn write_walk(writer: &mut Writer, walk: &Walk) -> Result<(), Memory>
+    ensures { Adds result writer.old writer.new (tokens_of (walk_data walk.now)) }
+{
+    writer.begin_array()?;
+    writer.u64(walk.start.get())?;
+    for step in walk.steps.as_slice() {
+        write_step(writer, *step)?;
+    }
+    writer.end_array()?;
+    Ok(())
+}
+
+// The edge and the node of a step.
+fn write_step(writer: &mut Writer, step: Step) -> Result<(), Memory>
+    ensures { Adds result writer.old writer.new
+        (tokens_of (id_data step.edge) ++ tokens_of (id_data step.node)) }
+{
+    writer.u64(step.edge.get())?;
+    writer.u64(step.node.get())?;
     Ok(())
 }
 

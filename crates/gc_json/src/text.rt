@@ -1,19 +1,19 @@
 ghost use Rattle.std.specs.Prelude.{◌≡◌, ◌+◌, ◌∷◌, codes, length, IfOk, OnOk};
-ghost use Rattle.gc_json.specs.CanonicalText.{canonical_text, graph_data, array_of, node_data, edge_data, path_data};
+ghost use Rattle.gc_json.specs.CanonicalText.{canonical_text, element_count, graph_data, array_of, node_data, edge_data, path_data};
 ghost use Rattle.gc_json.specs.Writing.{Adds, tokens_of};
 ghost use Rattle.json.specs.Token.{key};
 
-use crate::elements::write_node;
+use crate::elements::{write_edge, write_node, write_path};
 use gc_base::{Bytes, Memory, Steps};
 use gc_ppg::Graph;
 use json::Writer;
 use std::alloc::Global;
 use std::sync::ledger::Ledger;
 
-/// The canonical text of a graph. It takes one step for each node.
+/// The canonical text of a graph. It takes one step for each element.
 pub fn print<L: Ledger>(alloc: Global, g: &Graph, steps: &mut Steps<L>) -> Result<Bytes, Memory>
     ensures text { IfOk result (λ text. text ≡ canonical_text g.now) }
-    ensures steps { OnOk result (steps.new ≡ steps.old + length g.now.nodes) }
+    ensures steps { OnOk result (steps.new ≡ steps.old + element_count g.now) }
 {
     let mut writer = Writer::new(Vec::new(alloc));
     write_graph(&mut writer, g, steps)?;
@@ -26,14 +26,14 @@ fn write_graph<L: Ledger>(
     steps: &mut Steps<L>,
 ) -> Result<(), Memory>
     ensures tokens { Adds result writer.old writer.new (tokens_of (graph_data g.now)) }
-    ensures steps { OnOk result (steps.new ≡ steps.old + length g.now.nodes) }
+    ensures steps { OnOk result (steps.new ≡ steps.old + element_count g.now) }
 {
     writer.begin_object()?;
-    write_edges(writer, g)?;
+    write_edges(writer, g, steps)?;
     writer.key("gcore")?;
     writer.u64(1)?;
     write_nodes(writer, g, steps)?;
-    write_paths(writer, g)?;
+    write_paths(writer, g, steps)?;
     writer.end_object()?;
     Ok(())
 }
@@ -56,26 +56,38 @@ fn write_nodes<L: Ledger>(
     Ok(())
 }
 
-// A graph has no edges yet, as `node_count` says.
-fn write_edges(writer: &mut Writer, g: &Graph) -> Result<(), Memory>
-    ensures { Adds result writer.old writer.new
+fn write_edges<L: Ledger>(
+    writer: &mut Writer,
+    g: &Graph,
+    steps: &mut Steps<L>,
+) -> Result<(), Memory>
+    ensures tokens { Adds result writer.old writer.new
         (key (codes "edges") ∷ tokens_of (array_of edge_data g.now.edges)) }
+    ensures steps { OnOk result (steps.new ≡ steps.old + length g.now.edges) }
 {
-    let _count = g.node_count();
     writer.key("edges")?;
     writer.begin_array()?;
+    for i in 0..g.edge_count() {
+        write_edge(writer, g.edge(i, steps))?;
+    }
     writer.end_array()?;
     Ok(())
 }
 
-// A graph has no stored paths yet, as `node_count` says.
-fn write_paths(writer: &mut Writer, g: &Graph) -> Result<(), Memory>
-    ensures { Adds result writer.old writer.new
+fn write_paths<L: Ledger>(
+    writer: &mut Writer,
+    g: &Graph,
+    steps: &mut Steps<L>,
+) -> Result<(), Memory>
+    ensures tokens { Adds result writer.old writer.new
         (key (codes "paths") ∷ tokens_of (array_of path_data g.now.paths)) }
+    ensures steps { OnOk result (steps.new ≡ steps.old + length g.now.paths) }
 {
-    let _count = g.node_count();
     writer.key("paths")?;
     writer.begin_array()?;
+    for i in 0..g.path_count() {
+        write_path(writer, g.path(i, steps))?;
+    }
     writer.end_array()?;
     Ok(())
 }

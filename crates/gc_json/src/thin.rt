@@ -106,8 +106,8 @@ fn add_node(builder: &mut GraphBuilder, node: NodeInfo) -> Result<(), ThinRefusa
 {
     match builder.add_node(node) {
         Ok(()) => Ok(()),
-        Err(BuildRefusal::Taken(_)) => Err(ThinRefusal::NotThin),
         Err(BuildRefusal::Memory) => Err(ThinRefusal::Memory),
+        Err(_) => Err(ThinRefusal::NotThin),
     }
 }
 

@@ -1,2 +1,10 @@
+pub mod ElementLists
+pub mod ElementMaps
+pub mod EndPlaces
+pub mod Finds
 pub mod Kept
-pub mod NodeLists
+pub mod LabelledReads
+pub mod Runs
+pub mod ShapeTables
+pub mod Valid
+pub mod WalkTests

@@ -1,10 +1,18 @@
-ghost use Rattle.std.specs.Prelude.{◌≡◌, ◌+◌, ◌<◌, [], length, slice_get, Some};
+ghost use Rattle.std.specs.Prelude.{◌≡◌, ◌+◌, ◌<◌, ◌==◌, length, slice_get, Some, IfOk};
 ghost use Rattle.std.specs.List.{filter};
-ghost use Rattle.gc_spec.specs.PropertyGraph.{IsGraph};
+ghost use Rattle.std.specs.Option.{option_copied, option_and_then};
+ghost use Rattle.gc_spec.specs.PropertyGraph.{IsGraph, node_at, edge_at, path_at};
 ghost use Rattle.gc_ppg.specs.Labelled.{has_label, nodes_with_label};
+ghost use Rattle.gc_ppg.specs.Reads.{handed_out};
+ghost use Rattle.gc_ppg.specs.KeyedPlaces.{AreEnds};
 
-use crate::element::NodeInfo;
-use gc_base::{Name, Steps};
+use crate::element::{EdgeInfo, NodeInfo, PathInfo};
+use crate::labelled::{count_labelled, nth_labelled};
+use crate::places::{PlaceAt, Places};
+use crate::search::find;
+use crate::shape::Kind;
+use gc_base::{Id, Memory, Name, Numbered, Steps};
+use std::alloc::Global;
 use std::marker::Model;
 use std::sync::ledger::Ledger;
 
@@ -13,35 +21,76 @@ use std::sync::ledger::Ledger;
 #[derive(Debug, Drop)]
 pub struct Graph {
     nodes: Vec<NodeInfo>,
+    edges: Vec<EdgeInfo>,
+    paths: Vec<PathInfo>,
+    leaving: Places,
+    coming: Places,
 }
 
+/// A list of graphs, which are named by their numbers.
+pub type GraphList = Numbered<Graph>;
+
 impl Model for Graph {
-    ghost use Rattle.std.specs.Prelude.{[]};
     ghost use Rattle.gc_spec.specs.PropertyGraph.{PropertyGraph, IsGraph};
 
     ghost Value = { PropertyGraph };
 
-    ghost view = { λ g. record { nodes = g.nodes.items; edges = []; paths = [] } };
+    ghost view = { λ g. record { nodes = g.nodes.items; edges = g.edges.items; paths = g.paths.items } };
 
-    ghost invariant = { λ g. IsGraph (record { nodes = g.nodes.items; edges = []; paths = [] }) };
+    ghost use Rattle.gc_ppg.specs.KeyedPlaces.{AreEnds};
+
+    ghost invariant = { λ g.
+        IsGraph (record { nodes = g.nodes.items; edges = g.edges.items; paths = g.paths.items })
+        × AreEnds (λ e. e.from) g.edges.items g.leaving
+        × AreEnds (λ e. e.to) g.edges.items g.coming };
 }
 
 impl Graph {
-    // The graph of nodes that ascend.
-    pub(crate) fn of_nodes(nodes: Vec<NodeInfo>) -> Graph
-        requires { IsGraph (record { nodes = nodes.items; edges = []; paths = [] }) }
-        ensures { result ≡ record { nodes = nodes.items; edges = []; paths = [] } }
+    ghost use Rattle.gc_ppg.specs.LabelledIds.{labelled_ids};
+
+    // The graph of these elements.
+    pub(crate) fn of_elements(
+        alloc: Global,
+        nodes: Vec<NodeInfo>,
+        edges: Vec<EdgeInfo>,
+        paths: Vec<PathInfo>,
+    ) -> Result<Graph, Memory>
+        requires { IsGraph (record { nodes = nodes.items; edges = edges.items; paths = paths.items }) }
+        ensures { IfOk result (λ g. g ≡ record { nodes = nodes.items; edges = edges.items; paths = paths.items }) }
     {
-        Graph { nodes }
+        let leaving = by_source(alloc, &edges)?;
+        let coming = by_target(alloc, &edges)?;
+        Ok(Graph {
+            nodes,
+            edges,
+            paths,
+            leaving,
+            coming,
+        })
     }
 
-    /// How many nodes there are. A graph has no edges and no paths yet.
+    /// How many nodes there are.
     pub fn node_count(&self) -> usize
         ensures count { result ≡ length self.now.nodes }
         ensures valid { IsGraph self.now }
-        ensures alone { (self.now.edges ≡ []) × (self.now.paths ≡ []) }
     {
         self.nodes.len()
+    }
+
+    /// How many edges there are.
+    pub fn edge_count(&self) -> usize
+        ensures count { result ≡ length self.now.edges }
+        ensures valid { IsGraph self.now }
+    {
+        self.edges.len()
+    }
+
+    /// How many stored paths there are.
+    pub fn path_count(&self) -> usize
+        ensures count { result ≡ length self.now.paths }
+        ensures valid { IsGraph self.now }
+    {
+        self.paths.len()
     }
 
     /// The node at a place below the count, by ascending identity. It takes one step.
@@ -54,14 +103,193 @@ impl Graph {
         &self.nodes[i]
     }
 
+    /// The edge at a place below the count, by ascending identity. It takes one step.
+    pub fn edge<L: Ledger>(&self, i: usize, steps: &mut Steps<L>) -> &EdgeInfo
+        requires { i < length self.now.edges }
+        ensures edge { slice_get self.now.edges i ≡ Some result.now }
+        ensures step { steps.new ≡ steps.old + 1 }
+    {
+        steps.tick();
+        &self.edges[i]
+    }
+
+    /// The stored path at a place below the count, by ascending identity. It takes one step.
+    pub fn path<L: Ledger>(&self, i: usize, steps: &mut Steps<L>) -> &PathInfo
+        requires { i < length self.now.paths }
+        ensures path { slice_get self.now.paths i ≡ Some result.now }
+        ensures step { steps.new ≡ steps.old + 1 }
+    {
+        steps.tick();
+        &self.paths[i]
+    }
+
+    /// The node of an identity, or `None` exactly where it is not there. A node takes one step.
+    pub fn find_node<L: Ledger>(&self, id: Id, steps: &mut Steps<L>) -> Option<&NodeInfo>
+        ensures node { option_copied result ≡ node_at self.now.nodes id }
+        ensures step { steps.new ≡ steps.old + handed_out result }
+    {
+        counted(find(&self.nodes, id), steps)
+    }
+
+    /// The edge of an identity, or `None` exactly where it is not there. An edge takes one step.
+    pub fn find_edge<L: Ledger>(&self, id: Id, steps: &mut Steps<L>) -> Option<&EdgeInfo>
+        ensures edge { option_copied result ≡ edge_at self.now.edges id }
+        ensures step { steps.new ≡ steps.old + handed_out result }
+    {
+        counted(find(&self.edges, id), steps)
+    }
+
+    /// The stored path of an identity, or `None` exactly where it is not there. A path takes one
+    /// step.
+    pub fn find_path<L: Ledger>(&self, id: Id, steps: &mut Steps<L>) -> Option<&PathInfo>
+        ensures path { option_copied result ≡ path_at self.now.paths id }
+        ensures step { steps.new ≡ steps.old + handed_out result }
+    {
+        counted(find(&self.paths, id), steps)
+    }
+
+    /// The i-th edge that leaves a node, by ascending identity, or `None` exactly where there is
+    /// none. An edge takes one step.
+    pub fn out_edge<L: Ledger>(&self, node: Id, i: usize, steps: &mut Steps<L>) -> Option<&EdgeInfo>
+        ensures edge { option_copied result ≡ slice_get (filter (λ e. e.from == node) self.now.edges) i }
+        ensures step { steps.new ≡ steps.old + handed_out result }
+    {
+        let place = self.leaving.at(node.get(), i);
+        counted(self.edge_at(place), steps)
+    }
+
+    /// The i-th edge that comes to a node, by ascending identity, or `None` exactly where there is
+    /// none. An edge takes one step.
+    pub fn in_edge<L: Ledger>(&self, node: Id, i: usize, steps: &mut Steps<L>) -> Option<&EdgeInfo>
+        ensures edge { option_copied result ≡ slice_get (filter (λ e. e.to == node) self.now.edges) i }
+        ensures step { steps.new ≡ steps.old + handed_out result }
+    {
+        let place = self.coming.at(node.get(), i);
+        counted(self.edge_at(place), steps)
+    }
+
+    /// How many elements of a kind have a label.
+    pub fn label_count(&self, kind: Kind, label: &Name) -> usize
+        ensures { result ≡ length (labelled_ids self.now kind label.now) }
+    {
+        match kind {
+            Kind::Node => count_labelled(&self.nodes, label),
+            Kind::Edge => count_labelled(&self.edges, label),
+            Kind::Path => count_labelled(&self.paths, label),
+        }
+    }
+
+    /// The i-th element of a kind that has a label, by ascending identity, or `None` exactly where
+    /// there is none. An element takes one step.
+    pub fn with_label<L: Ledger>(
+        &self,
+        kind: Kind,
+        label: &Name,
+        i: usize,
+        steps: &mut Steps<L>,
+    ) -> Option<Id>
+        ensures element { result ≡ slice_get (labelled_ids self.now kind label.now) i }
+        ensures step { steps.new ≡ steps.old + handed_out result }
+    {
+        let found = self.nth_with_label(kind, label, i);
+        if found.is_some() {
+            steps.tick();
+        }
+        found
+    }
+
+    fn nth_with_label(&self, kind: Kind, label: &Name, i: usize) -> Option<Id>
+        ensures { result ≡ slice_get (labelled_ids self.now kind label.now) i }
+    {
+        match kind {
+            Kind::Node => nth_labelled(&self.nodes, label, i),
+            Kind::Edge => nth_labelled(&self.edges, label, i),
+            Kind::Path => nth_labelled(&self.paths, label, i),
+        }
+    }
+
+    // The edge at a place, if there is one.
+    fn edge_at(&self, place: Option<usize>) -> Option<&EdgeInfo>
+        ensures { option_copied result ≡ option_and_then (slice_get self.now.edges) place }
+    {
+        match place {
+            Some(place) => self.edges.get(place),
+            None => None,
+        }
+    }
+
+    // All nodes, by ascending identity.
+    pub(crate) fn nodes(&self) -> &[NodeInfo]
+        ensures nodes { result.now ≡ self.now.nodes }
+        ensures valid { IsGraph self.now }
+    {
+        &self.nodes
+    }
+
+    // All edges, by ascending identity.
+    pub(crate) fn edges(&self) -> &[EdgeInfo]
+        ensures edges { result.now ≡ self.now.edges }
+        ensures valid { IsGraph self.now }
+    {
+        &self.edges
+    }
+
+    // All stored paths, by ascending identity.
+    pub(crate) fn paths(&self) -> &[PathInfo]
+        ensures paths { result.now ≡ self.now.paths }
+        ensures valid { IsGraph self.now }
+    {
+        &self.paths
+    }
+
     /// The graph of exactly the nodes that have a label, with their labels and properties, and
     /// without edges and paths. It takes no memory.
     pub fn labelled(self, label: &Name) -> Graph
         ensures { result ≡ nodes_with_label self label.now }
     {
-        let Graph { nodes } = self;
-        Graph::of_nodes(keep_labelled(nodes, label))
+        let Graph {
+            nodes,
+            mut edges,
+            mut paths,
+            mut leaving,
+            mut coming,
+        } = self;
+        edges.clear();
+        paths.clear();
+        leaving.clear();
+        coming.clear();
+        Graph {
+            nodes: keep_labelled(nodes, label),
+            edges,
+            paths,
+            leaving,
+            coming,
+        }
     }
+}
+
+// The places of edges by their sources.
+fn by_source(alloc: Global, edges: &[EdgeInfo]) -> Result<Places, Memory>
+    ensures { IfOk result (AreEnds (λ e. e.from) edges.now) }
+{
+    let mut places = Vec::with_capacity(alloc, edges.len())?;
+    for (place, edge) in edges.iter().enumerate() {
+        let key = edge.from.get();
+        places.push(PlaceAt { key, place })?;
+    }
+    Places::of(places)
+}
+
+// The places of edges by their targets.
+fn by_target(alloc: Global, edges: &[EdgeInfo]) -> Result<Places, Memory>
+    ensures { IfOk result (AreEnds (λ e. e.to) edges.now) }
+{
+    let mut places = Vec::with_capacity(alloc, edges.len())?;
+    for (place, edge) in edges.iter().enumerate() {
+        let key = edge.to.get();
+        places.push(PlaceAt { key, place })?;
+    }
+    Places::of(places)
 }
 
 // The nodes that have a label, in their order.
@@ -70,4 +298,15 @@ fn keep_labelled(mut nodes: Vec<NodeInfo>, label: &Name) -> Vec<NodeInfo>
 {
     nodes.retain(|node| node.labels.contains(label));
     nodes
+}
+
+// An answer, with one step where an element is handed out.
+fn counted<'a, T, L: Ledger>(answer: Option<&'a T>, steps: &mut Steps<L>) -> Option<&'a T>
+    ensures same { result ≡ answer.entry }
+    ensures step { steps.new ≡ steps.old + handed_out result }
+{
+    if answer.is_some() {
+        steps.tick();
+    }
+    answer
 }

@@ -4,9 +4,18 @@
 #![tactic(auto)]
 
 mod builder;
+mod by_id;
+mod coherence;
 mod element;
 mod graph;
+mod kind;
+mod labelled;
+mod places;
+mod search;
+mod shape;
 
 pub use builder::{BuildRefusal, GraphBuilder};
-pub use element::NodeInfo;
-pub use graph::Graph;
+pub use coherence::Coherence;
+pub use element::{EdgeInfo, NodeInfo, PathInfo};
+pub use graph::{Graph, GraphList};
+pub use shape::{Kind, Shape};

@@ -1,60 +1,13 @@
-use Rattle.std.proofs.Common.{◌≡◌, ℕ, Bool, true, false, List, is_some, sym, ap, subst, ◌∙◌}
-use Rattle.std.specs.Map.{lookup}
-use Rattle.std.specs.Ordering.{nat_cmp}
-use Rattle.std.specs.Cmp.{nat_cmp_total}
-use Rattle.std.specs.BTreeMap.{insert_entry, is_at}
-use Rattle.gc_base.specs.Ascending.{with_item}
-use Rattle.gc_base.proofs.Search.{rises}
-use Rattle.gc_spec.specs.PropertyGraph.{Node, PropertyGraph, IsGraph, ids_of, is_among, node_order}
-use Rattle.gc_ppg.specs.Built.{with_node}
-use Rattle.gc_ppg.proofs.NodeLists.{KeysAreIds, nodes_in, only_nodes, found-is_among, nodes_in-insert_entry, KeysAreIds-insert_entry, IsGraph-with_node, ids_of-only_nodes}
+use Rattle.std.proofs.Common.{◌≡◌, false, sym, ap, ◌∙◌, subst, List}
+use Rattle.gc_spec.specs.PropertyGraph.{Node, IsGraph, PropertyGraph, ids_of, is_among}
+use Rattle.gc_ppg.proofs.Valid.{IsGraph-with_node}
 use Rattle.gc_ppg.proofs.builder.GraphBuilder.add_node.Goals as goal
-
--- the map's test is whether the identity is among those of the graph
-tested : (es : List (ℕ × Node)) (g : PropertyGraph) (n : Node) (k : ℕ) (b : Bool) → KeysAreIds es → only_nodes (nodes_in es) ≡ g → k ≡ n.id
-    → b ≡ is_some (lookup (is_at (nat_cmp k)) es) → is_among (ids_of g) n.id ≡ b
-tested es g n k b keys same_graph same_id is =
-    subst (λ (h : PropertyGraph). is_among (ids_of h) n.id ≡ b) same_graph
-    (subst (λ (i : ℕ). is_among (ids_of (only_nodes (nodes_in es))) i ≡ b) same_id
-    (ap (λ ids. is_among ids k) (ids_of-only_nodes (nodes_in es)) ∙ (sym (found-is_among es k keys) ∙ sym is)))
-
-pub returns-then-contains_key-clause-refused : goal.returns-then-contains_key-clause-refused
-returns-then-contains_key-clause-refused c =
-    let same_id : c.node.inside.id ≡ c.args.node.id = ap (λ (m : Node). m.id) c.node.view_is in (
-      same_id,
-      tested c.self.inside.nodes.entries c.args.self.now c.args.node c.node.inside.id true c.self.invariant.1 c.self.view_is same_id (sym c.if-contains_key.true ∙ c.contains_key.ensures),
-    )
-
-pub returns-clause-fresh : goal.returns-clause-fresh
-returns-clause-fresh c =
-    tested c.self.inside.nodes.entries c.args.self.now c.args.node c.node.inside.id false c.self.invariant.1 c.self.view_is (ap (λ (m : Node). m.id) c.node.view_is) (sym c.if-contains_key.false ∙ c.contains_key.ensures)
-
--- the entries and the nodes after the insertion
-record Grown (es new : List (ℕ × Node)) (n : Node) : Type 0 where
-  entries : new ≡ insert_entry nat_cmp es n.id n
-  nodes : nodes_in new ≡ with_item node_order (nodes_in es) n
-
-grown : (es new : List (ℕ × Node)) (k : ℕ) (n : Node) → KeysAreIds es → IsGraph (only_nodes (nodes_in es)) → k ≡ n.id
-    → new ≡ insert_entry nat_cmp es k n → Grown es new n
-grown es new k n keys valid same inserted =
-    let entries : new ≡ insert_entry nat_cmp es n.id n = inserted ∙ ap (λ i. insert_entry nat_cmp es i n) same in
-    record {
-      entries = entries;
-      nodes = ap nodes_in entries ∙ nodes_in-insert_entry es n keys (rises (λ m. m.id) nat_cmp nat_cmp_total (nodes_in es) n.id valid.nodes_ascend);
-    }
 
 pub invariant_of-self-2 : goal.invariant_of-self-2
 invariant_of-self-2 c =
-    let es = c.self.inside.nodes.entries in
-    let n = c.args.node in
-    let g = grown es c.insert.new.self.entries c.node.inside.id n c.self.invariant.1 c.self.invariant.0 (ap (λ (m : Node). m.id) c.node.view_is) c.in_ok-insert.ensures.entries in (
-      subst (λ (ns : List Node). IsGraph (only_nodes ns)) (sym g.nodes) (IsGraph-with_node (nodes_in es) n c.self.invariant.0 c.known.ensures),
-      subst KeysAreIds (sym g.entries) (KeysAreIds-insert_entry es n c.self.invariant.1),
-    )
-
-pub returns-clause-added : goal.returns-clause-added
-returns-clause-added c =
-    let es = c.self.inside.nodes.entries in
-    let n = c.args.node in
-    let g = grown es c.insert.new.self.entries c.node.inside.id n c.self.invariant.1 c.self.invariant.0 (ap (λ (m : Node). m.id) c.node.view_is) c.in_ok-insert.ensures.entries in
-    ap only_nodes g.nodes ∙ ap (λ (h : PropertyGraph). with_node h n) c.self.view_is
+    let g : PropertyGraph = record { nodes = c.self.inside.nodes; edges = c.self.inside.edges; paths = c.self.inside.paths } in
+    let fresh : is_among (ids_of g) c.args.node.id ≡ false =
+    ap (λ (h : PropertyGraph). is_among (ids_of h) c.args.node.id) c.self.view_is
+    ∙ (ap (λ i. is_among (ids_of c.args.self.now) i) (sym (ap (λ (x : Node). x.id) c.node.view_is)) ∙ (sym c.is_taken.ensures ∙ c.if-is_taken.false)) in
+    subst (λ (xs : List Node). IsGraph (record g { nodes = xs })) (sym c.in_ok-add.ensures.ok)
+    (IsGraph-with_node g c.args.node c.self.invariant c.known.ensures fresh)

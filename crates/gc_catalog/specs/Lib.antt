@@ -1,0 +1,2 @@
+pub mod AddRefusals
+pub mod NamedGraphs

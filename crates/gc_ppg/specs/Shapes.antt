@@ -1,0 +1,36 @@
+-- What identities stand for in some graphs, and whether a shape agrees with that.
+use Rattle.std.specs.Prelude.{ℕ, Bool, true, false, ◌&&◌, ◌==◌, List, Option, Some, None}
+use Rattle.std.specs.List.{list_all}
+use Rattle.std.specs.Map.{lookup}
+use Rattle.std.specs.Cmp.Lexicographic.{pointwise}
+use Rattle.gc_base.specs.declared.walk.Step.{Step}
+use Rattle.gc_base.specs.declared.walk.Walk.{Walk}
+use Rattle.gc_spec.specs.Coherence.{ElementShape, NodeShape, EdgeShape, PathShape}
+
+-- whether two steps go along one edge to one node
+abbrev pub same_step : Step → Step → Bool
+same_step s t = (s.edge == t.edge) && (s.node == t.node)
+
+-- whether two walks have one start and the same steps
+abbrev pub same_walk : Walk → Walk → Bool
+same_walk v w = (v.start == w.start) && pointwise same_step v.steps w.steps
+
+-- whether two shapes have one kind, and the same ends or the same walk
+abbrev pub same_shape : ElementShape → ElementShape → Bool
+same_shape NodeShape NodeShape = true
+same_shape (EdgeShape a b) (EdgeShape c d) = (a == c) && (b == d)
+same_shape (PathShape v) (PathShape w) = same_walk v w
+same_shape s t = false
+
+-- whether a shape is that of the identity, where the identity is there
+abbrev pub allowed : Option ElementShape → ElementShape → Bool
+allowed None shape = true
+allowed (Some s) shape = same_shape s shape
+
+-- the shape of an identity among the shapes of a graph, if it is there
+abbrev pub shape_among : List (ℕ × ElementShape) → ℕ → Option ElementShape
+shape_among shapes id = lookup (λ other. other == id) shapes
+
+-- whether an identity has this shape in each of the graphs that has it
+abbrev pub agrees : List (List (ℕ × ElementShape)) → ℕ → ElementShape → Bool
+agrees seen id shape = list_all (λ shapes. allowed (shape_among shapes id) shape) seen
