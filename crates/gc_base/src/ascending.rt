@@ -5,6 +5,7 @@ ghost use Rattle.gc_base.specs.Ascending.{Ascends, has, with_item, without_item,
 ghost use Rattle.gc_base.specs.Places.{IsPlaceOrGap};
 
 use crate::duplicate::{Duplicate, copies};
+use crate::growth::insert_at;
 use crate::memory::Memory;
 use std::alloc::Global;
 use std::marker::Model;
@@ -107,7 +108,7 @@ impl<T: Item + Drop> Ascending<T> {
             Ok(_) => Ok(false),
             Err(place) => {
                 item.known();
-                self.items.insert(place, item)?;
+                insert_at(&mut self.items, place, item)?;
                 Ok(true)
             }
         }

@@ -6,6 +6,7 @@
 mod ascending;
 mod duplicate;
 mod fault;
+mod growth;
 mod id;
 mod literal;
 mod memory;

@@ -7,6 +7,7 @@ ghost use Rattle.gc_base.specs.PropertyLists.{AreProperties, IsProperty, put, va
 ghost use Rattle.gc_base.specs.Ascending.{with_item, without_item};
 
 use crate::duplicate::{Duplicate, copies};
+use crate::growth::insert_at;
 use crate::memory::Memory;
 use crate::name::Name;
 use crate::sets::ValueSet;
@@ -132,7 +133,7 @@ impl Properties {
     {
         match self.search(&property.name) {
             Ok(place) => self.entries[place] = property,
-            Err(place) => self.entries.insert(place, property)?,
+            Err(place) => insert_at(&mut self.entries, place, property)?,
         }
         Ok(())
     }

@@ -10,8 +10,8 @@ invariant_of-self-in-Err g c =
     let xs = c.args.self.now in
     let x = c.args.item in
     let i = c.in-Err.place in
-    let items : c.insert.new.self.items ≡ with_item cmp xs x =
-    c.in_ok-insert-in-Err.ensures.items ∙ (ap (λ ys. take i ys ++ x ∷ drop i ys) c.self.view_is ∙ sym (with_item-gap cmp xs x i c.in-Err.ensures)) in
+    let items : c.insert_at.new.items.items ≡ with_item cmp xs x =
+    c.in_ok-insert_at-in-Err.ensures.ok ∙ (ap (λ ys. take i ys ++ x ∷ drop i ys) c.self.view_is ∙ sym (with_item-gap cmp xs x i c.in-Err.ensures)) in
     subst (λ ys. Ascends cmp ys × AllByRecursion g.T.Item.is_valid ys) (sym items) (
       Ascends-with_item cmp g.met.T.Ord.total xs x (subst (Ascends cmp) c.self.view_is c.self.invariant.0),
       AllByRecursion-with_item cmp g.T.Item.is_valid xs x (subst (AllByRecursion g.T.Item.is_valid) c.self.view_is c.self.invariant.1) c.known.ensures,

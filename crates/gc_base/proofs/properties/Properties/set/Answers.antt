@@ -20,6 +20,6 @@ invariant_of-self-in-Continue-1 c =
     let i = c.in-Err.place in
     let ps = c.args.self.now in
     let p = c.args.property in
-    let items : c.insert.new.self.items ≡ with_item property_order ps p =
-    c.in_ok-insert-in-Err.ensures.items ∙ (ap (λ qs. take i qs ++ p ∷ drop i qs) c.self.view_is ∙ sym (with_item-gap property_order ps p i c.in-Err.ensures)) in
+    let items : c.insert_at.new.items.items ≡ with_item property_order ps p =
+    c.in_ok-insert_at-in-Err.ensures.ok ∙ (ap (λ qs. take i qs ++ p ∷ drop i qs) c.self.view_is ∙ sym (with_item-gap property_order ps p i c.in-Err.ensures)) in
     subst AreProperties (sym items) (AreProperties-with ps p (subst AreProperties c.self.view_is c.self.invariant) c.requires)
