@@ -4,5 +4,7 @@
 #![tactic(auto)]
 
 mod catalog;
+#[cfg(test)]
+mod tests;
 
 pub use catalog::{AddRefusal, Catalog};
