@@ -1,0 +1,10 @@
+//! Tables of bindings and their algebra. Others rely on one thing: each operation gives exactly the
+//! rows that the relational algebra names, ascending, each once, over a schema that is told.
+//! This crate knows of no graph, no pattern and no expression.
+#![tactic(auto)]
+
+mod datum;
+mod row;
+
+pub use datum::Datum;
+pub use row::{Binding, Row, RowList, SymList, row_cmp};
