@@ -1,2 +1,4 @@
 pub mod Lookup
+pub mod Members
 pub mod RowLaws
+pub mod TableLaws

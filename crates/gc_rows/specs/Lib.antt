@@ -1,3 +1,4 @@
 pub mod Data
 pub mod DataLaws
 pub mod Rows
+pub mod Tables

@@ -5,6 +5,8 @@
 
 mod datum;
 mod row;
+mod table;
 
 pub use datum::Datum;
 pub use row::{Binding, Row, RowList, SymList, row_cmp};
+pub use table::Table;
