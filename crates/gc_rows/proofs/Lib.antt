@@ -1,3 +1,4 @@
+pub mod AlgebraLaws
 pub mod Lookup
 pub mod Members
 pub mod RowLaws

@@ -1,3 +1,4 @@
+pub mod Algebra
 pub mod Data
 pub mod DataLaws
 pub mod Rows

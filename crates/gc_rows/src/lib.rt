@@ -4,9 +4,16 @@
 #![tactic(auto)]
 
 mod datum;
+mod joins;
+mod pair;
+mod projection;
 mod row;
+mod semijoins;
 mod table;
 
 pub use datum::Datum;
+pub use joins::{join, outer};
+pub use projection::project;
 pub use row::{Binding, Row, RowList, SymList, row_cmp};
+pub use semijoins::{antijoin, semijoin};
 pub use table::Table;

@@ -1,10 +1,11 @@
-ghost use Rattle.std.specs.Prelude.{◌≡◌, [], OnOk, OnErr};
+ghost use Rattle.std.specs.Prelude.{◌≡◌, [], IfOk, OnOk, OnErr};
 ghost use Rattle.std.specs.Option.{option_copied, option_cmp};
 ghost use Rattle.std.specs.Ordering.{nat_cmp};
 ghost use Rattle.gc_base.specs.Places.{IsPlaceOrGap};
 ghost use Rattle.gc_rows.specs.Data.{datum_order};
 ghost use Rattle.gc_rows.specs.declared.row.Binding.{Binding};
-ghost use Rattle.gc_rows.specs.Rows.{datum_at, bind, row_order, IsRow};
+ghost use Rattle.gc_rows.specs.Rows.{datum_at, bind, lists, row_order, IsRow};
+ghost use Rattle.gc_rows.specs.Algebra.{restricted};
 
 use crate::datum::Datum;
 use gc_base::{Duplicate, Memory, Sequence, Sym};
@@ -87,6 +88,19 @@ impl Row {
         &self.bindings
     }
 
+    /// The row with its bindings of these variables alone.
+    pub fn restricted(&self, keep: &[Sym]) -> Result<Row, Memory>
+        ensures { IfOk result (λ row. row ≡ restricted keep.now self.now) }
+    {
+        let mut bindings = Vec::new(*self.bindings.allocator());
+        for binding in self.bindings() {
+            if is_listed(keep, binding.var) {
+                bindings.push(binding.copy()?)?;
+            }
+        }
+        Ok(Row { bindings })
+    }
+
     // Where the variable is bound, or would be.
     fn search(&self, var: Sym) -> Result<usize, usize>
         ensures { IsPlaceOrGap (λ b. nat_cmp b.var.0 var.0) self.now result }
@@ -113,6 +127,13 @@ impl Duplicate for Row {
         }
         Ok(Row { bindings })
     }
+}
+
+/// Whether a list has a variable.
+pub fn is_listed(vars: &[Sym], var: Sym) -> bool
+    ensures { result ≡ lists vars.now var }
+{
+    vars.iter().any(|other| other.0 == var.0)
 }
 
 /// The order of rows: variable by variable in the order of the schema, unbound first.

@@ -39,6 +39,14 @@ impl Table {
         })
     }
 
+    /// The table of rows that ascend already.
+    pub fn ascending(schema: SymList, rows: RowList) -> Table
+        requires { AreRowsOver schema rows }
+        ensures { result ≡ record { schema = schema; rows = rows } }
+    {
+        Table { schema, rows }
+    }
+
     /// Its variables, in order.
     pub fn schema(&self) -> &SymList
         ensures { result.now ≡ self.now.schema }
