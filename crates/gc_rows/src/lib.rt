@@ -10,6 +10,8 @@ mod projection;
 mod row;
 mod semijoins;
 mod table;
+#[cfg(test)]
+mod tests;
 
 pub use datum::Datum;
 pub use joins::{join, outer};

@@ -4,7 +4,7 @@ ghost use Rattle.std.specs.Ordering.{nat_cmp};
 ghost use Rattle.gc_base.specs.Places.{IsPlaceOrGap};
 ghost use Rattle.gc_rows.specs.Data.{datum_order};
 ghost use Rattle.gc_rows.specs.declared.row.Binding.{Binding};
-ghost use Rattle.gc_rows.specs.Rows.{datum_at, bind, lists, row_order, IsRow};
+ghost use Rattle.gc_rows.specs.Rows.{datum_at, bind, lists, row_order, IsRow, IsOver};
 ghost use Rattle.gc_rows.specs.Algebra.{restricted};
 
 use crate::datum::Datum;
@@ -90,7 +90,8 @@ impl Row {
 
     /// The row with its bindings of these variables alone.
     pub fn restricted(&self, keep: &[Sym]) -> Result<Row, Memory>
-        ensures { IfOk result (λ row. row ≡ restricted keep.now self.now) }
+        ensures kept { IfOk result (λ row. row ≡ restricted keep.now self.now) }
+        ensures over { IfOk result (IsOver keep.now) }
     {
         let mut bindings = Vec::new(*self.bindings.allocator());
         for binding in self.bindings() {

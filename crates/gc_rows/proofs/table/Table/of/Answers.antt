@@ -1,6 +1,6 @@
-use Rattle.std.proofs.Common.{◌≡◌, refl, subst, sym, ◌∙◌}
+use Rattle.std.proofs.Common.{◌≡◌, refl, subst, sym}
 use Rattle.std.specs.List.{AllByRecursion}
-use Rattle.gc_rows.specs.Rows.{IsRow, IsOver}
+use Rattle.gc_rows.specs.Rows.{IsRow}
 use Rattle.gc_rows.specs.Tables.{IsRowOver, AreRowsOver, HasExactly}
 use Rattle.gc_rows.proofs.TableLaws.{rows_over}
 use Rattle.gc_rows.proofs.table.Table.of.Goals as goal
