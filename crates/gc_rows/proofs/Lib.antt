@@ -1,4 +1,6 @@
 pub mod AlgebraLaws
+pub mod KeyLaws
+pub mod LinkLaws
 pub mod Lookup
 pub mod Members
 pub mod RowLaws

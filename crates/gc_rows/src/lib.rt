@@ -5,7 +5,9 @@
 
 mod datum;
 mod joins;
+mod keys;
 mod pair;
+mod partners;
 mod projection;
 mod row;
 mod semijoins;

@@ -1,7 +1,5 @@
 // Each operation with ample memory, on tables whose results were worked out by hand.
-use crate::{
-    Datum, Row, RowList, SymList, Table, antijoin, join, outer, project, row_cmp, semijoin,
-};
+use crate::{Datum, Row, RowList, SymList, Table, antijoin, join, outer, project, semijoin};
 use gc_base::{Duplicate, Id, Literal, Step, StepList, Sym, ValueSet, Walk};
 use std::alloc::Global;
 use std::cmp::Ordering;
@@ -41,30 +39,45 @@ fn has_rows(rt: &impl Abort, table: &Table, rows: &[(Option<u64>, Option<u64>)])
     }
 }
 
+// Two rows that bind the first of two variables, a row that binds both, a row of the second.
+fn samples(alloc: Global) -> Result<(Table, Table, Table), Fail> {
+    let both = [Sym(0), Sym(1)];
+    let a = table(alloc, &both, &[&[(0, 2)], &[(0, 1)], &[(0, 2)]])?;
+    let b = table(alloc, &both, &[&[(0, 1), (1, 3)]])?;
+    let c = table(alloc, &[Sym(1)], &[&[(1, 3)]])?;
+    Ok((a, b, c))
+}
+
 #[test]
 fn rows_without_partner(rt: HostRuntime) -> Result<(), Fail> {
     let alloc = rt.alloc();
-    let a = table(alloc, &[Sym(0), Sym(1)], &[&[(0, 2)], &[(0, 1)], &[(0, 2)]])?;
-    let b = table(alloc, &[Sym(0), Sym(1)], &[&[(0, 1), (1, 3)]])?;
-    let c = table(alloc, &[Sym(1)], &[&[(1, 3)]])?;
+    let (a, b, _) = samples(alloc)?;
     has_rows(&rt, &a, &[(Some(1), None), (Some(2), None)]);
     has_rows(
         &rt,
         &outer(alloc, &a, &b)?,
         &[(Some(1), Some(3)), (Some(2), None)],
     );
-    has_rows(&rt, &join(alloc, &a, &b)?, &[(Some(1), Some(3))]);
     has_rows(&rt, &antijoin(alloc, &a, &b)?, &[(Some(2), None)]);
+    Ok(())
+}
+
+#[test]
+fn rows_with_partner(rt: HostRuntime) -> Result<(), Fail> {
+    let alloc = rt.alloc();
+    let (a, b, c) = samples(alloc)?;
     has_rows(&rt, &semijoin(alloc, &a, &b)?, &[(Some(1), None)]);
+    has_rows(&rt, &join(alloc, &a, &b)?, &[(Some(1), Some(3))]);
     has_rows(
         &rt,
         &join(alloc, &a, &c)?,
         &[(Some(1), Some(3)), (Some(2), Some(3))],
     );
-    let keep = SymList::from_vec([Sym(1)].to_vec(alloc)?);
-    let second = project(alloc, &outer(alloc, &a, &b)?, &keep)?;
-    has_rows(&rt, &second.copy()?, &[(None, None), (None, Some(3))]);
-    assert_eq!(rt; second.schema().as_slice(), [Sym(1)].as_slice());
+    has_rows(
+        &rt,
+        &project(alloc, &b, c.schema())?.copy()?,
+        &[(None, Some(3))],
+    );
     Ok(())
 }
 
@@ -88,43 +101,37 @@ fn value(alloc: Global, number: i64) -> Result<Datum, Fail> {
     Ok(Datum::Value(values))
 }
 
-fn bound(alloc: Global, datum: Datum) -> Result<Row, Fail> {
-    let mut row = Row::empty(alloc);
-    row.put(Sym(0), datum)?;
-    Ok(row)
+// Data in their order.
+fn datum(alloc: Global, place: u8) -> Result<Datum, Fail> {
+    match place {
+        0 => Ok(Datum::Node(id(9)?)),
+        1 => Ok(Datum::Edge(id(8)?)),
+        2 => Ok(Datum::Stored(id(7)?)),
+        3 => walk(alloc, &[6]),
+        4 => walk(alloc, &[4, 5]),
+        5 => walk(alloc, &[5, 4]),
+        6 => span(1, 3),
+        7 => span(2, 0),
+        8 => value(alloc, -1),
+        9 => value(alloc, 0),
+        _ => Ok(Datum::PastRange),
+    }
+}
+
+fn span(from: u64, to: u64) -> Result<Datum, Fail> {
+    Ok(Datum::Span {
+        from: id(from)?,
+        to: id(to)?,
+    })
 }
 
 #[test]
 fn data_in_order(rt: HostRuntime) -> Result<(), Fail> {
-    let alloc = rt.alloc();
-    let mut rows = Vec::new(alloc);
-    rows.push(Row::empty(alloc))?;
-    rows.push(bound(alloc, Datum::Node(id(9)?))?)?;
-    rows.push(bound(alloc, Datum::Edge(id(8)?))?)?;
-    rows.push(bound(alloc, Datum::Stored(id(7)?))?)?;
-    rows.push(bound(alloc, walk(alloc, &[6])?)?)?;
-    rows.push(bound(alloc, walk(alloc, &[4, 5])?)?)?;
-    rows.push(bound(alloc, walk(alloc, &[5, 4])?)?)?;
-    rows.push(bound(
-        alloc,
-        Datum::Span {
-            from: id(1)?,
-            to: id(3)?,
-        },
-    )?)?;
-    rows.push(bound(
-        alloc,
-        Datum::Span {
-            from: id(2)?,
-            to: id(0)?,
-        },
-    )?)?;
-    rows.push(bound(alloc, value(alloc, -1)?)?)?;
-    rows.push(bound(alloc, value(alloc, 0)?)?)?;
-    rows.push(bound(alloc, Datum::PastRange)?)?;
-    for (i, row) in rows.iter().enumerate() {
-        for (j, other) in rows.iter().enumerate() {
-            assert_eq!(rt; row_cmp(&[Sym(0)], row, &other.copy()?), i.cmp(&j));
+    for place in 0..11 {
+        for other in 0..11 {
+            let a = datum(rt.alloc(), place)?;
+            let b = datum(rt.alloc(), other)?;
+            assert_eq!(rt; a.copy()?.cmp(&b), place.cmp(&other));
         }
     }
     Ok(())
