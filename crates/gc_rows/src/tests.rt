@@ -2,25 +2,49 @@
 use crate::{Datum, Row, RowList, SymList, Table, antijoin, join, outer, project, semijoin};
 use gc_base::{Duplicate, Id, Literal, Step, StepList, Sym, ValueSet, Walk};
 use std::alloc::Global;
-use std::cmp::Ordering;
-use std::process::Abort;
 use std::test::Fail;
 
 fn id(number: u64) -> Result<Id, Fail> {
     Ok(Id::new(number).ok_or("an identity")?)
 }
 
-// A table of nodes: for each row the variables that it binds, with the numbers of their nodes.
-fn table(alloc: Global, schema: &[Sym], rows: &[&[(u32, u64)]]) -> Result<Table, Fail> {
+// A row that binds the variables 0 and 1 to these nodes, where there are any.
+fn row(alloc: Global, first: Option<u64>, second: Option<u64>) -> Result<Row, Fail> {
+    let mut row = Row::empty(alloc);
+    if let Some(node) = first {
+        row.put(Sym(0), Datum::Node(id(node)?))?;
+    }
+    if let Some(node) = second {
+        row.put(Sym(1), Datum::Node(id(node)?))?;
+    }
+    Ok(row)
+}
+
+// The table of such rows, restricted to a schema.
+fn table(
+    alloc: Global,
+    schema: &[Sym],
+    rows: &[(Option<u64>, Option<u64>)],
+) -> Result<Table, Fail> {
     let mut list = RowList::new(alloc);
-    for bindings in rows {
-        let mut row = Row::empty(alloc);
-        for (var, node) in *bindings {
-            row.put(Sym(*var), Datum::Node(id(*node)?))?;
-        }
-        list.push(row.restricted(schema)?)?;
+    for (first, second) in rows {
+        list.push(row(alloc, *first, *second)?.restricted(schema)?)?;
     }
     Ok(Table::of(SymList::from_vec(schema.to_vec(alloc)?), list)?)
+}
+
+// Two rows without the second variable.
+fn loose(alloc: Global) -> Result<Table, Fail> {
+    table(
+        alloc,
+        &[Sym(0), Sym(1)],
+        &[(Some(2), None), (Some(1), None), (Some(2), None)],
+    )
+}
+
+// A row with both variables.
+fn whole(alloc: Global) -> Result<Table, Fail> {
+    table(alloc, &[Sym(0), Sym(1)], &[(Some(1), Some(3))])
 }
 
 fn node_at(row: &Row, var: u32) -> Option<u64> {
@@ -30,54 +54,47 @@ fn node_at(row: &Row, var: u32) -> Option<u64> {
     }
 }
 
-// The table has these rows, in this order; each is told by the nodes of the variables 0 and 1.
-fn has_rows(rt: &impl Abort, table: &Table, rows: &[(Option<u64>, Option<u64>)]) {
-    assert_eq!(rt; table.rows().len(), rows.len());
-    for (row, (first, second)) in table.rows().as_slice().iter().zip(rows) {
-        assert_eq!(rt; node_at(row, 0), *first);
-        assert_eq!(rt; node_at(row, 1), *second);
+// Whether a table has these rows, in this order.
+fn has_rows(table: &Table, rows: &[(Option<u64>, Option<u64>)]) -> bool {
+    if table.rows().len() != rows.len() {
+        return false;
     }
-}
-
-// Two rows that bind the first of two variables, a row that binds both, a row of the second.
-fn samples(alloc: Global) -> Result<(Table, Table, Table), Fail> {
-    let both = [Sym(0), Sym(1)];
-    let a = table(alloc, &both, &[&[(0, 2)], &[(0, 1)], &[(0, 2)]])?;
-    let b = table(alloc, &both, &[&[(0, 1), (1, 3)]])?;
-    let c = table(alloc, &[Sym(1)], &[&[(1, 3)]])?;
-    Ok((a, b, c))
+    for (row, (first, second)) in table.rows().as_slice().iter().zip(rows) {
+        if node_at(row, 0) != *first || node_at(row, 1) != *second {
+            return false;
+        }
+    }
+    true
 }
 
 #[test]
-fn rows_without_partner(rt: HostRuntime) -> Result<(), Fail> {
-    let alloc = rt.alloc();
-    let (a, b, _) = samples(alloc)?;
-    has_rows(&rt, &a, &[(Some(1), None), (Some(2), None)]);
-    has_rows(
-        &rt,
-        &outer(alloc, &a, &b)?,
-        &[(Some(1), Some(3)), (Some(2), None)],
-    );
-    has_rows(&rt, &antijoin(alloc, &a, &b)?, &[(Some(2), None)]);
+fn outer_keeps_the_row_without_partner(rt: HostRuntime) -> Result<(), Fail> {
+    let result = outer(rt.alloc(), &loose(rt.alloc())?, &whole(rt.alloc())?)?;
+    assert!(rt; has_rows(&result, &[(Some(1), Some(3)), (Some(2), None)]));
     Ok(())
 }
 
 #[test]
-fn rows_with_partner(rt: HostRuntime) -> Result<(), Fail> {
-    let alloc = rt.alloc();
-    let (a, b, c) = samples(alloc)?;
-    has_rows(&rt, &semijoin(alloc, &a, &b)?, &[(Some(1), None)]);
-    has_rows(&rt, &join(alloc, &a, &b)?, &[(Some(1), Some(3))]);
-    has_rows(
-        &rt,
-        &join(alloc, &a, &c)?,
-        &[(Some(1), Some(3)), (Some(2), Some(3))],
-    );
-    has_rows(
-        &rt,
-        &project(alloc, &b, c.schema())?.copy()?,
-        &[(None, Some(3))],
-    );
+fn antijoin_keeps_the_row_without_partner(rt: HostRuntime) -> Result<(), Fail> {
+    let result = antijoin(rt.alloc(), &loose(rt.alloc())?, &whole(rt.alloc())?)?;
+    assert!(rt; has_rows(&result, &[(Some(2), None)]));
+    Ok(())
+}
+
+#[test]
+fn semijoin_keeps_the_row_with_a_partner(rt: HostRuntime) -> Result<(), Fail> {
+    let result = semijoin(rt.alloc(), &loose(rt.alloc())?, &whole(rt.alloc())?)?;
+    assert!(rt; has_rows(&result.copy()?, &[(Some(1), None)]));
+    Ok(())
+}
+
+#[test]
+fn join_with_one_loose_row(rt: HostRuntime) -> Result<(), Fail> {
+    let whole = whole(rt.alloc())?;
+    let keep = SymList::from_vec([Sym(1)].to_vec(rt.alloc())?);
+    let second = project(rt.alloc(), &whole, &keep)?;
+    let result = join(rt.alloc(), &loose(rt.alloc())?, &second)?;
+    assert!(rt; has_rows(&result, &[(Some(1), Some(3)), (Some(2), Some(3))]));
     Ok(())
 }
 

@@ -3,5 +3,5 @@ use Rattle.gc_rows.specs.Rows.{IsOver}
 use Rattle.gc_rows.proofs.tests.table.Given as goal
 
 -- the rows so far are over the schema
-abbrev pub invariant-loop-bindings : goal.invariant-loop-bindings
-invariant-loop-bindings l = AllByRecursion (IsOver l.schema) l.list
+abbrev pub invariant-loop-first : goal.invariant-loop-first
+invariant-loop-first l = AllByRecursion (IsOver l.schema) l.list
