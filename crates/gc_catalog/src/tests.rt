@@ -17,7 +17,12 @@ fn takes_a_name_once(rt: HostRuntime) -> Result<(), Fail> {
     let g = GraphBuilder::new(alloc).finish()?;
     let h = GraphBuilder::new(alloc).finish()?;
     assert!(rt; matches!(catalog.add(name(alloc, "sample")?, g), Ok(0)));
-    assert!(rt; matches!(catalog.add(name(alloc, "sample")?, h), Err(AddRefusal::NameTaken)));
+    assert!(rt;
+        matches!(
+            catalog.add(name(alloc, "sample")?, h),
+            Err(AddRefusal::NameTaken)
+        )
+    );
     assert_eq!(rt; catalog.number_of(&name(alloc, "sample")?), Some(0));
     assert_eq!(rt; catalog.number_of(&name(alloc, "other")?), None);
     assert!(rt; catalog.name_at(0).is_some());

@@ -1,4 +1,4 @@
-use Rattle.std.proofs.Common.{◌≡◌, ℕ, ◌≤◌, List, [], ◌∷◌, ◌++◌, length, Option, None, Some, Ok, ap, ◌∙◌, subst, sym, refl, arith, inl, inr}
+use Rattle.std.proofs.Common.{◌≡◌, ℕ, ◌≤◌, List, [], ◌∷◌, length, Option, None, Some, Ok, ap, ◌∙◌, subst, sym, refl, arith, inl, inr}
 use Rattle.std.proofs.lemmas.List.{append-nil}
 use Rattle.std.specs.Result.{IsErr, IsErrAnd}
 use Rattle.std.specs.Prelude.{IfSome, IsOk, IsSomeAnd, Result, Err, ◌⊎◌}
@@ -84,8 +84,8 @@ returns-in_err-label-clause-outcome g c =
     let query = c.args.query.now in
     let stop = c.in_err-label.field-0.0 in
     let reads : StopsReading (record { files = told; faults_before = middle; faults_after = after }) query (λ files. label_due files query) stop
-        = subst (λ files. StopsReading (record { files = files; faults_before = middle; faults_after = after }) query (λ files. label_due files query) stop)
-            c.in_ok-graph.ensures.kept c.in_err-label.ensures.outcome in
+    = subst (λ files. StopsReading (record { files = files; faults_before = middle; faults_after = after }) query (λ files. label_due files query) stop)
+    c.in_ok-graph.ensures.kept c.in_err-label.ensures.outcome in
     let stops = label_stops told query c.args.pair.now c.in_ok-graph.graph before middle after (g.S.Sink.faults c.args.out.now) (g.S.Sink.taken c.args.out.now) stop
-        c.in_ok-graph.ensures.outcome c.in_ok-graph.ensures.later reads in
+    c.in_ok-graph.ensures.outcome c.in_ok-graph.ensures.later reads in
     answers_stop _ c.from_residual-in_err-label.result stop c.from_residual-in_err-label.ensures.0 c.from_residual-in_err-label.ensures.1 stops
