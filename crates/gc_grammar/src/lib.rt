@@ -1,0 +1,7 @@
+//! The grammar of query files, as a definition: which list of tokens spells which tree, production by
+//! production. The crates above cite it. This crate has no code, and knows of no parser.
+#![tactic(auto)]
+
+mod laws;
+
+pub use laws::probe;
