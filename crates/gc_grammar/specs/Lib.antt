@@ -1,4 +1,5 @@
 pub mod Constructs
+pub mod Examples
 pub mod Expressions
 pub mod Patterns
 pub mod Queries

@@ -124,8 +124,12 @@ abbrev pub text : Lang (List ℕ)
 text = One (λ token a. token ≡ Text a)
 
 -- a word that is not reserved
+unfoldable pub IsName : List ℕ → Type 0
+IsName a = is_reserved a ≡ false
+
+-- a name without its token
 abbrev pub plain_name : Lang (List ℕ)
-plain_name = One (λ token a. (token ≡ Word a) × (is_reserved a ≡ false))
+plain_name = One (λ token a. (token ≡ Word a) × IsName a)
 
 -- a name with its token
 abbrev pub name : Lang Named

@@ -4,4 +4,6 @@
 
 mod laws;
 
-pub use laws::probe;
+pub use laws::{
+    a_name_is_a_file, labels_are_spelled, labels_are_spelled_so_alone, parentheses_leave_no_mark,
+};
