@@ -3,6 +3,7 @@
 //! that stands beside the expression.
 #![tactic(auto)]
 
+mod build;
 mod expr;
 
 pub use expr::{
