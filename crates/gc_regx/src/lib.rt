@@ -2,6 +2,7 @@
 //! knows of no token, no graph and no automaton.
 #![tactic(auto)]
 
+mod build;
 mod regex;
 
 pub use regex::{Regex, RegexList};

@@ -1,9 +1,4 @@
-ghost use Rattle.std.specs.Prelude.{◌≡◌, map, IfOk};
-ghost use Rattle.gc_regx.specs.Trees.{Label, Back, Any, AnyBack, Test, View, Cat, Alt, Star, row};
-ghost use Rattle.gc_regx.specs.Views.{regex_tree};
-
-use gc_base::{Memory, Name};
-use std::alloc::Global;
+use gc_base::Name;
 
 /// A regular path expression. The parts of a `Cat` follow one another, those of an `Alt` are
 /// alternatives; the grammar gives both at least two parts.
@@ -31,27 +26,3 @@ pub enum Regex {
 
 /// A list of regular path expressions.
 pub type RegexList = Vec<Regex>;
-
-#[tactic(auto, unfolding(crate::specs::Views::regex_tree))]
-impl Regex {
-    /// `:l`
-    pub fn label(label: Name) -> Regex
-        ensures { regex_tree result ≡ Label label }
-    {
-        Regex::Label(label)
-    }
-
-    /// A part any number of times.
-    pub fn star(alloc: Global, part: Regex) -> Result<Regex, Memory>
-        ensures { IfOk result (λ r. regex_tree r ≡ Star (regex_tree part)) }
-    {
-        Ok(Regex::Star(Box::new(alloc, part)?))
-    }
-
-    /// Parts one after another.
-    pub fn cat(parts: RegexList) -> Regex
-        ensures { regex_tree result ≡ Cat (row (map regex_tree parts.items)) }
-    {
-        Regex::Cat(parts)
-    }
-}
