@@ -17,6 +17,7 @@ use Rattle.gc_ast.specs.declared.query.Query.{Query}
 use Rattle.gc_ast.specs.declared.construct.Change.TheOpen.{Change-F, ConstructPart-F, Item-F, Head-F, Term-F, Assign-F, NewElement-F, Basic-F, Formula-F, MatchBlock-F, NextTerm-F, OptionalBlock-F, Query-F}
 use Rattle.gc_ast.specs.declared.construct.Change.TheOpen as layer
 use Rattle.gc_ast.specs.declared.construct.Change.TheFolds.{fold-Item, fold-Change, fold-ConstructPart, fold-Head, fold-Term, fold-Assign, fold-NewElement, fold-Basic, fold-Formula, fold-MatchBlock, fold-NextTerm, fold-OptionalBlock, fold-Query}
+use Rattle.gc_ast.specs.declared.file.File.{File}
 use Rattle.gc_ast.specs.declared.query.Statement.{Statement}
 use Rattle.gc_ast.specs.declared.query.Statement.TheVariants as statement
 use Rattle.gc_ast.specs.Trees as tree
@@ -174,3 +175,7 @@ query_tree names =
 abbrev pub statement_tree : Names → Statement → Tree AStatement
 statement_tree names (statement.View g q) = tree.View (named names g) (query_tree names q)
 statement_tree names (statement.Ask q) = tree.Ask (query_tree names q)
+
+-- the trees of a file's statements
+abbrev pub file_trees : File → List (Tree AStatement)
+file_trees f = map (statement_tree f.names) f.statements.items

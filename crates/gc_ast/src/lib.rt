@@ -2,6 +2,7 @@
 //! `File::place`, which says where a token begins. This crate knows of no token list and no graph.
 #![tactic(auto)]
 
+mod build_construct;
 mod build_query;
 mod construct;
 mod file;
