@@ -84,92 +84,92 @@ query_layer q = tree.Query (row q.heads.items) q.first (row q.rest.items)
 unfoldable pub change_tree : Names → Change → Tree AChange
 change_tree names =
     fold-Change (Tree AChange) (Tree AConstructPart) (Tree AnItem) (Tree AHead) (Tree ATerm) (Tree AnAssign) (Tree ANewElement) (Tree ABasic) (Tree AFormula) (Tree ABlock) (Tree ANextTerm) (Tree AnOptional) (Tree AQuery)
-      (change_layer names) (part_layer names) (item_layer names) (head_layer names) (term_layer names) assign_layer (new_element_layer names)
-      basic_layer (formula_layer names) (block_layer names) next_term_layer optional_layer query_layer
+    (change_layer names) (part_layer names) (item_layer names) (head_layer names) (term_layer names) assign_layer (new_element_layer names)
+    basic_layer (formula_layer names) (block_layer names) next_term_layer optional_layer query_layer
 
 -- the tree of a part of a construct chain
 unfoldable pub part_tree : Names → ConstructPart → Tree AConstructPart
 part_tree names =
     fold-ConstructPart (Tree AChange) (Tree AConstructPart) (Tree AnItem) (Tree AHead) (Tree ATerm) (Tree AnAssign) (Tree ANewElement) (Tree ABasic) (Tree AFormula) (Tree ABlock) (Tree ANextTerm) (Tree AnOptional) (Tree AQuery)
-      (change_layer names) (part_layer names) (item_layer names) (head_layer names) (term_layer names) assign_layer (new_element_layer names)
-      basic_layer (formula_layer names) (block_layer names) next_term_layer optional_layer query_layer
+    (change_layer names) (part_layer names) (item_layer names) (head_layer names) (term_layer names) assign_layer (new_element_layer names)
+    basic_layer (formula_layer names) (block_layer names) next_term_layer optional_layer query_layer
 
 -- the tree of an item
 unfoldable pub item_tree : Names → Item → Tree AnItem
 item_tree names =
     fold-Item (Tree AChange) (Tree AConstructPart) (Tree AnItem) (Tree AHead) (Tree ATerm) (Tree AnAssign) (Tree ANewElement) (Tree ABasic) (Tree AFormula) (Tree ABlock) (Tree ANextTerm) (Tree AnOptional) (Tree AQuery)
-      (change_layer names) (part_layer names) (item_layer names) (head_layer names) (term_layer names) assign_layer (new_element_layer names)
-      basic_layer (formula_layer names) (block_layer names) next_term_layer optional_layer query_layer
+    (change_layer names) (part_layer names) (item_layer names) (head_layer names) (term_layer names) assign_layer (new_element_layer names)
+    basic_layer (formula_layer names) (block_layer names) next_term_layer optional_layer query_layer
 
 -- the tree of a head
 unfoldable pub head_tree : Names → Head → Tree AHead
 head_tree names =
     fold-Head (Tree AChange) (Tree AConstructPart) (Tree AnItem) (Tree AHead) (Tree ATerm) (Tree AnAssign) (Tree ANewElement) (Tree ABasic) (Tree AFormula) (Tree ABlock) (Tree ANextTerm) (Tree AnOptional) (Tree AQuery)
-      (change_layer names) (part_layer names) (item_layer names) (head_layer names) (term_layer names) assign_layer (new_element_layer names)
-      basic_layer (formula_layer names) (block_layer names) next_term_layer optional_layer query_layer
+    (change_layer names) (part_layer names) (item_layer names) (head_layer names) (term_layer names) assign_layer (new_element_layer names)
+    basic_layer (formula_layer names) (block_layer names) next_term_layer optional_layer query_layer
 
 -- the tree of a term
 unfoldable pub term_tree : Names → Term → Tree ATerm
 term_tree names =
     fold-Term (Tree AChange) (Tree AConstructPart) (Tree AnItem) (Tree AHead) (Tree ATerm) (Tree AnAssign) (Tree ANewElement) (Tree ABasic) (Tree AFormula) (Tree ABlock) (Tree ANextTerm) (Tree AnOptional) (Tree AQuery)
-      (change_layer names) (part_layer names) (item_layer names) (head_layer names) (term_layer names) assign_layer (new_element_layer names)
-      basic_layer (formula_layer names) (block_layer names) next_term_layer optional_layer query_layer
+    (change_layer names) (part_layer names) (item_layer names) (head_layer names) (term_layer names) assign_layer (new_element_layer names)
+    basic_layer (formula_layer names) (block_layer names) next_term_layer optional_layer query_layer
 
 -- the tree of a property that is given
 unfoldable pub assign_tree : Names → Assign → Tree AnAssign
 assign_tree names =
     fold-Assign (Tree AChange) (Tree AConstructPart) (Tree AnItem) (Tree AHead) (Tree ATerm) (Tree AnAssign) (Tree ANewElement) (Tree ABasic) (Tree AFormula) (Tree ABlock) (Tree ANextTerm) (Tree AnOptional) (Tree AQuery)
-      (change_layer names) (part_layer names) (item_layer names) (head_layer names) (term_layer names) assign_layer (new_element_layer names)
-      basic_layer (formula_layer names) (block_layer names) next_term_layer optional_layer query_layer
+    (change_layer names) (part_layer names) (item_layer names) (head_layer names) (term_layer names) assign_layer (new_element_layer names)
+    basic_layer (formula_layer names) (block_layer names) next_term_layer optional_layer query_layer
 
 -- the tree of an element of a construct chain
 unfoldable pub new_element_tree : Names → NewElement → Tree ANewElement
 new_element_tree names =
     fold-NewElement (Tree AChange) (Tree AConstructPart) (Tree AnItem) (Tree AHead) (Tree ATerm) (Tree AnAssign) (Tree ANewElement) (Tree ABasic) (Tree AFormula) (Tree ABlock) (Tree ANextTerm) (Tree AnOptional) (Tree AQuery)
-      (change_layer names) (part_layer names) (item_layer names) (head_layer names) (term_layer names) assign_layer (new_element_layer names)
-      basic_layer (formula_layer names) (block_layer names) next_term_layer optional_layer query_layer
+    (change_layer names) (part_layer names) (item_layer names) (head_layer names) (term_layer names) assign_layer (new_element_layer names)
+    basic_layer (formula_layer names) (block_layer names) next_term_layer optional_layer query_layer
 
 -- the tree of a CONSTRUCT
 unfoldable pub basic_tree : Names → Basic → Tree ABasic
 basic_tree names =
     fold-Basic (Tree AChange) (Tree AConstructPart) (Tree AnItem) (Tree AHead) (Tree ATerm) (Tree AnAssign) (Tree ANewElement) (Tree ABasic) (Tree AFormula) (Tree ABlock) (Tree ANextTerm) (Tree AnOptional) (Tree AQuery)
-      (change_layer names) (part_layer names) (item_layer names) (head_layer names) (term_layer names) assign_layer (new_element_layer names)
-      basic_layer (formula_layer names) (block_layer names) next_term_layer optional_layer query_layer
+    (change_layer names) (part_layer names) (item_layer names) (head_layer names) (term_layer names) assign_layer (new_element_layer names)
+    basic_layer (formula_layer names) (block_layer names) next_term_layer optional_layer query_layer
 
 -- the tree of an expression with its EXISTS queries
 unfoldable pub formula_tree : Names → Formula → Tree AFormula
 formula_tree names =
     fold-Formula (Tree AChange) (Tree AConstructPart) (Tree AnItem) (Tree AHead) (Tree ATerm) (Tree AnAssign) (Tree ANewElement) (Tree ABasic) (Tree AFormula) (Tree ABlock) (Tree ANextTerm) (Tree AnOptional) (Tree AQuery)
-      (change_layer names) (part_layer names) (item_layer names) (head_layer names) (term_layer names) assign_layer (new_element_layer names)
-      basic_layer (formula_layer names) (block_layer names) next_term_layer optional_layer query_layer
+    (change_layer names) (part_layer names) (item_layer names) (head_layer names) (term_layer names) assign_layer (new_element_layer names)
+    basic_layer (formula_layer names) (block_layer names) next_term_layer optional_layer query_layer
 
 -- the tree of a block
 unfoldable pub block_tree : Names → MatchBlock → Tree ABlock
 block_tree names =
     fold-MatchBlock (Tree AChange) (Tree AConstructPart) (Tree AnItem) (Tree AHead) (Tree ATerm) (Tree AnAssign) (Tree ANewElement) (Tree ABasic) (Tree AFormula) (Tree ABlock) (Tree ANextTerm) (Tree AnOptional) (Tree AQuery)
-      (change_layer names) (part_layer names) (item_layer names) (head_layer names) (term_layer names) assign_layer (new_element_layer names)
-      basic_layer (formula_layer names) (block_layer names) next_term_layer optional_layer query_layer
+    (change_layer names) (part_layer names) (item_layer names) (head_layer names) (term_layer names) assign_layer (new_element_layer names)
+    basic_layer (formula_layer names) (block_layer names) next_term_layer optional_layer query_layer
 
 -- the tree of a later term
 unfoldable pub next_term_tree : Names → NextTerm → Tree ANextTerm
 next_term_tree names =
     fold-NextTerm (Tree AChange) (Tree AConstructPart) (Tree AnItem) (Tree AHead) (Tree ATerm) (Tree AnAssign) (Tree ANewElement) (Tree ABasic) (Tree AFormula) (Tree ABlock) (Tree ANextTerm) (Tree AnOptional) (Tree AQuery)
-      (change_layer names) (part_layer names) (item_layer names) (head_layer names) (term_layer names) assign_layer (new_element_layer names)
-      basic_layer (formula_layer names) (block_layer names) next_term_layer optional_layer query_layer
+    (change_layer names) (part_layer names) (item_layer names) (head_layer names) (term_layer names) assign_layer (new_element_layer names)
+    basic_layer (formula_layer names) (block_layer names) next_term_layer optional_layer query_layer
 
 -- the tree of an OPTIONAL block
 unfoldable pub optional_tree : Names → OptionalBlock → Tree AnOptional
 optional_tree names =
     fold-OptionalBlock (Tree AChange) (Tree AConstructPart) (Tree AnItem) (Tree AHead) (Tree ATerm) (Tree AnAssign) (Tree ANewElement) (Tree ABasic) (Tree AFormula) (Tree ABlock) (Tree ANextTerm) (Tree AnOptional) (Tree AQuery)
-      (change_layer names) (part_layer names) (item_layer names) (head_layer names) (term_layer names) assign_layer (new_element_layer names)
-      basic_layer (formula_layer names) (block_layer names) next_term_layer optional_layer query_layer
+    (change_layer names) (part_layer names) (item_layer names) (head_layer names) (term_layer names) assign_layer (new_element_layer names)
+    basic_layer (formula_layer names) (block_layer names) next_term_layer optional_layer query_layer
 
 -- the tree of a query
 unfoldable pub query_tree : Names → Query → Tree AQuery
 query_tree names =
     fold-Query (Tree AChange) (Tree AConstructPart) (Tree AnItem) (Tree AHead) (Tree ATerm) (Tree AnAssign) (Tree ANewElement) (Tree ABasic) (Tree AFormula) (Tree ABlock) (Tree ANextTerm) (Tree AnOptional) (Tree AQuery)
-      (change_layer names) (part_layer names) (item_layer names) (head_layer names) (term_layer names) assign_layer (new_element_layer names)
-      basic_layer (formula_layer names) (block_layer names) next_term_layer optional_layer query_layer
+    (change_layer names) (part_layer names) (item_layer names) (head_layer names) (term_layer names) assign_layer (new_element_layer names)
+    basic_layer (formula_layer names) (block_layer names) next_term_layer optional_layer query_layer
 
 -- the tree of a statement
 abbrev pub statement_tree : Names → Statement → Tree AStatement

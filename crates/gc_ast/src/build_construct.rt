@@ -61,17 +61,36 @@ impl ConstructPart {
     pub fn stored(token: u32, name: NameAt, labels: NameList, assigns: AssignList) -> ConstructPart
         ensures { (names : Names) → part_tree names result ≡ tree.NewStored token (named names name) labels (row (map (assign_tree names) assigns.items)) }
     {
-        ConstructPart::Stored { token, name, labels, assigns }
+        ConstructPart::Stored {
+            token,
+            name,
+            labels,
+            assigns,
+        }
     }
 }
 
 #[tactic(auto, unfolding(crate::specs::QueryViews::new_element_tree, crate::specs::QueryViews::assign_tree))]
 impl NewElement {
     /// A node or an edge: its name, what it copies, what it is grouped by, its labels and properties.
-    pub fn of(token: u32, name: Option<NameAt>, copy: Option<NameAt>, group: GroupTermList, labels: NameList, assigns: AssignList) -> NewElement
+    pub fn of(
+        token: u32,
+        name: Option<NameAt>,
+        copy: Option<NameAt>,
+        group: GroupTermList,
+        labels: NameList,
+        assigns: AssignList,
+    ) -> NewElement
         ensures { (names : Names) → new_element_tree names result ≡ tree.NewElement token (named_if names name) (named_if names copy) (row (map (group_term_tree names) group)) labels (row (map (assign_tree names) assigns.items)) }
     {
-        NewElement { token, name, copy, group, labels, assigns }
+        NewElement {
+            token,
+            name,
+            copy,
+            group,
+            labels,
+            assigns,
+        }
     }
 }
 
@@ -81,7 +100,11 @@ impl Assign {
     pub fn of(token: u32, property: Name, value: Formula) -> Assign
         ensures { (names : Names) → assign_tree names result ≡ tree.Assign token property (formula_tree names value) }
     {
-        Assign { token, property, value }
+        Assign {
+            token,
+            property,
+            value,
+        }
     }
 }
 

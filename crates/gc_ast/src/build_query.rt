@@ -63,10 +63,20 @@ impl NextTerm {
 #[tactic(auto, unfolding(crate::specs::QueryViews::head_tree, crate::specs::QueryViews::formula_tree, crate::specs::QueryViews::query_tree))]
 impl Head {
     /// `PATH v = .. WHERE e COST e`
-    pub fn path(name: NameAt, chains: ChainList, filter: Option<Formula>, cost: Option<Formula>) -> Head
+    pub fn path(
+        name: NameAt,
+        chains: ChainList,
+        filter: Option<Formula>,
+        cost: Option<Formula>,
+    ) -> Head
         ensures { (names : Names) → head_tree names result ≡ tree.PathHead (named names name) (rows (map (λ c. map (pattern_tree names) c.parts) chains)) (maybe (option_map (formula_tree names) filter)) (maybe (option_map (formula_tree names) cost)) }
     {
-        Head::Path { name, chains, filter, cost }
+        Head::Path {
+            name,
+            chains,
+            filter,
+            cost,
+        }
     }
 
     /// `GRAPH g AS (q)`
@@ -93,7 +103,12 @@ impl Basic {
     pub fn of(token: u32, items: ItemList, main: MatchBlock, optionals: OptionalList) -> Basic
         ensures { (names : Names) → basic_tree names result ≡ tree.Basic token (row (map (item_tree names) items.items)) (block_tree names main) (row (map (optional_tree names) optionals.items)) }
     {
-        Basic { token, items, main, optionals }
+        Basic {
+            token,
+            items,
+            main,
+            optionals,
+        }
     }
 }
 

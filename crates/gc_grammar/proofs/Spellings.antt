@@ -130,7 +130,7 @@ pub spells_graph : (inside : Inside) (g : List ℕ) → IsName g → (p : Point)
     → query inside p (Word g ∷ []) (graph_query g p.token) (next p)
 spells_graph inside g is_name p =
     spells_query inside p (next p) (Word g ∷ []) (record { name = g; token = p.token }) refl
-      (that (this (record { value = record { name = g; token = p.token }; spelled = spells_name g is_name p; made = refl })))
+    (that (this (record { value = record { name = g; token = p.token }; spelled = spells_name g is_name p; made = refl })))
 
 -- what is in parentheses
 pub spells_inside : {A : Type 0} (L : Lang A) (p q : Point) (ts : List Token) (a : A) → L (next p) ts a q
@@ -164,13 +164,13 @@ pub spells_graph_inside : (depth : ℕ) (g : List ℕ) → IsName g → (p : Poi
     → query (within (suc depth)) p (Symbol OpenParenthesis ∷ Word g ∷ Symbol CloseParenthesis ∷ []) (graph_query g (next p).token) (next (next (next p)))
 spells_graph_inside depth g is_name p =
     spells_query (within (suc depth)) p (next (next (next p))) (Symbol OpenParenthesis ∷ Word g ∷ Symbol CloseParenthesis ∷ [])
-      (record { name = g; token = (next p).token }) refl
-      (that (that (record {
-        value = graph_query g (next p).token;
-        spelled = spells_inside (query (within depth)) p (next (next p)) (Word g ∷ []) (graph_query g (next p).token)
+    (record { name = g; token = (next p).token }) refl
+    (that (that (record {
+      value = graph_query g (next p).token;
+      spelled = spells_inside (query (within depth)) p (next (next p)) (Word g ∷ []) (graph_query g (next p).token)
           (spells_graph (within depth) g is_name (next p));
-        made = refl;
-      })))
+      made = refl;
+    })))
 
 -- a query alone is a file
 pub spells_file : (inside : Inside) (p q : Point) (ts : List Token) (asked : Tree AQuery) → ts ≡ ts ++ []

@@ -39,8 +39,8 @@ optional_block inside = (the_word (codes "OPTIONAL") ▸ block inside) ⇒ λ n 
 abbrev pub basic : Inside → Lang (Tree ABasic)
 basic inside =
     (the_word (codes "CONSTRUCT") ▸ separated (item inside) (mark mark.Comma)
-        ⋅ the_word (codes "MATCH") ▸ block inside
-        ⋅ many (optional_block inside))
+    ⋅ the_word (codes "MATCH") ▸ block inside
+    ⋅ many (optional_block inside))
     ⇒ λ n v. tree.Basic n (row v.0) v.1.0 (row v.1.1)
 
 -- term = basic | name | `(` query `)`
@@ -58,8 +58,8 @@ named_query inside = name ⋅ the_word (codes "AS") ▸ in_parentheses inside.qu
 abbrev pub path_head : Inside → Lang (Tree AHead)
 path_head inside =
     (the_word (codes "PATH") ▸ name ⋅ mark mark.Equals ▸ separated vchain (mark mark.Comma)
-        ⋅ where_ inside
-        ⋅ optional (the_word (codes "COST") ▸ formula inside))
+    ⋅ where_ inside
+    ⋅ optional (the_word (codes "COST") ▸ formula inside))
     ⇒ λ n v. tree.PathHead v.0 (rows v.1.0) v.1.1.0 (maybe v.1.1.1)
 
 -- head = `PATH` name `=` vchain { `,` vchain } [ `WHERE` expr ] [ `COST` expr ]

@@ -12,7 +12,6 @@ infixl 60 ◌◂◌
 infixr 50 ◌⋅◌
 infixl 40 ◌⇒◌
 infixr 30 ◌∣◌
-
 -- a point of a token list: how many tokens are before it, and the EXISTS queries of the expression
 -- around it that are before it
 pub record Point : Type 0 where

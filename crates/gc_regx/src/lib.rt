@@ -4,5 +4,7 @@
 
 mod build;
 mod regex;
+#[cfg(test)]
+mod tests;
 
 pub use regex::{Regex, RegexList};

@@ -7,6 +7,11 @@ use Rattle.gc_grammar.proofs.Spellings.{spells_graph_inside, spells_file, graph_
 use Rattle.gc_grammar.proofs.laws.parentheses_leave_no_mark.Goals as goal
 
 pub returns : goal.returns
-returns c = λ g is_name. (next (next (next start)),
-    (1, spells_file (within 1) start (next (next (next start))) (Symbol OpenParenthesis ∷ Word g ∷ Symbol CloseParenthesis ∷ []) (graph_query g 1) refl
-      (spells_graph_inside 0 g is_name start)))
+returns c = λ g is_name. (
+  next (next (next start)),
+  (
+    1,
+    spells_file (within 1) start (next (next (next start))) (Symbol OpenParenthesis ∷ Word g ∷ Symbol CloseParenthesis ∷ []) (graph_query g 1) refl
+        (spells_graph_inside 0 g is_name start),
+  ),
+)
