@@ -1,0 +1,3 @@
+pub mod PatternViews
+pub mod QueryViews
+pub mod Trees

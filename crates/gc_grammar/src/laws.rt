@@ -1,0 +1,31 @@
+ghost use Rattle.std.specs.Prelude.{◌≡◌, List, [], ◌∷◌, ℕ};
+ghost use Rattle.gc_lex.specs.declared.token.Token.TheVariants.{Word, Symbol};
+ghost use Rattle.gc_lex.specs.declared.token.Token.{Token};
+ghost use Rattle.gc_lex.specs.declared.token.Mark.TheVariants.{Colon, OpenParenthesis, CloseParenthesis};
+ghost use Rattle.gc_regx.specs.Trees.{Label};
+ghost use Rattle.gc_grammar.specs.Regexes.{Expression, label};
+ghost use Rattle.gc_grammar.specs.Words.{IsName, Point};
+ghost use Rattle.gc_grammar.specs.Queries.{SpellsFile, SpellsRegex};
+ghost use Rattle.gc_grammar.specs.Examples.{graph_file};
+
+/// `:` and a word spell the edge with that label.
+pub fn labels_are_spelled()
+    ensures { (a : List ℕ) → SpellsRegex (Symbol Colon ∷ Word a ∷ []) (Label a) }
+{}
+
+/// Outside parentheses nothing else spells it.
+pub fn labels_are_spelled_so_alone()
+    ensures { (p q : Point) (ts : List Token) (a : List ℕ) (e : Expression) → label p ts e q → e.tree ≡ Label a
+        → ts ≡ Symbol Colon ∷ Word a ∷ [] }
+{}
+
+/// A name alone is a file, which asks for the graph of that name.
+pub fn a_name_is_a_file()
+    ensures { (g : List ℕ) → IsName g → SpellsFile (Word g ∷ []) (graph_file g 0) }
+{}
+
+/// Parentheses around a query of one term leave no mark but the number of the token.
+pub fn parentheses_leave_no_mark()
+    ensures { (g : List ℕ) → IsName g
+        → SpellsFile (Symbol OpenParenthesis ∷ Word g ∷ Symbol CloseParenthesis ∷ []) (graph_file g 1) }
+{}

@@ -1,0 +1,9 @@
+//! The grammar of query files, as a definition: which list of tokens spells which tree, production by
+//! production. The crates above cite it. This crate has no code, and knows of no parser.
+#![tactic(auto)]
+
+mod laws;
+
+pub use laws::{
+    a_name_is_a_file, labels_are_spelled, labels_are_spelled_so_alone, parentheses_leave_no_mark,
+};

@@ -1,0 +1,10 @@
+//! Regular path expressions as trees. Others rely on the tree alone, which a copy equals. This crate
+//! knows of no token, no graph and no automaton.
+#![tactic(auto)]
+
+mod build;
+mod regex;
+#[cfg(test)]
+mod tests;
+
+pub use regex::{Regex, RegexList};
