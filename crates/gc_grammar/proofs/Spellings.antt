@@ -1,15 +1,15 @@
 -- Spellings of the examples.
-use Rattle.std.proofs.Common.{◌≡◌, refl, ℕ, zero, suc, List, [], ◌∷◌, ◌++◌, Some, None}
+use Rattle.std.proofs.Common.{◌≡◌, refl, ℕ, zero, suc, List, [], ◌∷◌, ◌++◌, None}
 use Rattle.gc_lex.specs.declared.token.Token.{Token}
 use Rattle.gc_lex.specs.declared.token.Token.TheVariants.{Word, Symbol}
 use Rattle.gc_lex.specs.declared.token.Mark.{Mark}
 use Rattle.gc_lex.specs.declared.token.Mark.TheVariants.{Colon, OpenParenthesis, CloseParenthesis}
 use Rattle.gc_regx.specs.Trees.{Label}
-use Rattle.gc_ast.specs.Trees.{Tree, AQuery, AStatement, Ask, Query, GraphTerm, none, Named}
+use Rattle.gc_ast.specs.Trees.{Tree, AQuery, Ask, Query, GraphTerm, none, Named}
 use Rattle.gc_grammar.specs.Words.{Point, Lang, next, IsName, mark, word, name, this, that}
 use Rattle.gc_grammar.specs.Regexes.{plain, label, regex_within}
 use Rattle.gc_grammar.specs.Expressions.{Inside, in_parentheses}
-use Rattle.gc_grammar.specs.Queries.{term, query, file, within, start}
+use Rattle.gc_grammar.specs.Queries.{term, query, file, within}
 
 -- a symbol is spelled by itself
 pub spells_mark : (m : Mark) (p : Point) → mark m p (Symbol m ∷ []) tt (next p)

@@ -1,5 +1,5 @@
 -- The grammar of what a CONSTRUCT makes.
-use Rattle.std.specs.Prelude.{ℕ, List, [], ◌∷◌, codes, Option, Some, None}
+use Rattle.std.specs.Prelude.{ℕ, List, codes, Option}
 use Rattle.gc_lex.specs.declared.token.Mark.TheVariants as mark
 use Rattle.gc_ast.specs.Trees as tree
 use Rattle.gc_ast.specs.Trees.{Tree, AnItem, AConstructPart, ANewElement, AGroupTerm, AnAssign, AChange, Named, row, maybe}

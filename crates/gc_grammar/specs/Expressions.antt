@@ -1,5 +1,5 @@
 -- The grammar of expressions.
-use Rattle.std.specs.Prelude.{ℕ, ℤ, Bool, true, false, List, [], ◌∷◌, codes, Option, Some, None}
+use Rattle.std.specs.Prelude.{ℕ, Bool, true, false, List, [], ◌∷◌, codes, Option, Some, None}
 use Rattle.gc_lex.specs.declared.token.Mark.TheVariants as mark
 use Rattle.gc_expr.specs.declared.expr.Comparison.{Comparison}
 use Rattle.gc_expr.specs.declared.expr.Comparison.TheVariants.{Equal, Unequal, Less, LessEqual, Greater, GreaterEqual, Member, Included}

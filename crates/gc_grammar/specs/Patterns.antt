@@ -1,5 +1,5 @@
 -- The grammar of patterns.
-use Rattle.std.specs.Prelude.{◌≡◌, ℕ, ◌+◌, ℤ, List, [], ◌∷◌, map, codes, Option, Some, None}
+use Rattle.std.specs.Prelude.{ℕ, List, [], ◌∷◌, codes, Option, Some, None}
 use Rattle.gc_base.specs.declared.place.Direction.{Direction}
 use Rattle.gc_base.specs.declared.place.Direction.TheVariants.{Forward, Backward, Either}
 use Rattle.gc_lex.specs.declared.token.Mark.TheVariants.{Colon, Minus, Bar, Equals, Comma, Slash, AtSign, Less, Greater, OpenParenthesis, CloseParenthesis, OpenBracket, CloseBracket, OpenBrace, CloseBrace}

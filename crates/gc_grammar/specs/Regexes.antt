@@ -1,10 +1,10 @@
 -- The grammar of regular path expressions.
-use Rattle.std.specs.Prelude.{◌≡◌, ℕ, zero, suc, List, [], ◌∷◌, ◌++◌, map, flat_map, codes, Option, Some, None}
+use Rattle.std.specs.Prelude.{ℕ, zero, suc, List, [], ◌∷◌, map, flat_map, Option, Some, None}
 use Rattle.gc_lex.specs.declared.token.Mark.TheVariants.{Colon, Minus, LowLine, Bang, Tilde, Star, Bar, OpenParenthesis, CloseParenthesis}
 use Rattle.gc_regx.specs.Trees as tree
 use Rattle.gc_regx.specs.Trees.{RegexTree, ARegex, row}
 use Rattle.gc_ast.specs.Trees.{Named}
-use Rattle.gc_grammar.specs.Words.{Lang, nothing, ◌⋅◌, ◌∣◌, ◌⇒◌, ◌▸◌, ◌◂◌, optional, many, several, separated, at_some_depth, mark, word, name}
+use Rattle.gc_grammar.specs.Words.{Lang, nothing, ◌⋅◌, ◌∣◌, ◌⇒◌, ◌▸◌, ◌◂◌, optional, several, separated, at_some_depth, mark, word, name}
 
 -- a tree, and the names after its `~` in text order
 pub record Expression : Type 0 where

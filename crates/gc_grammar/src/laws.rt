@@ -24,8 +24,8 @@ pub fn a_name_is_a_file()
     ensures { (g : List ℕ) → IsName g → SpellsFile (Word g ∷ []) (graph_file g 0) }
 {}
 
-/// Parentheses around a query of one term leave no mark but the number of the token.
-pub fn parentheses_leave_no_mark()
+/// A name in parentheses spells what the name alone does, but for the number of its token.
+pub fn a_name_in_parentheses_is_that_name()
     ensures { (g : List ℕ) → IsName g
         → SpellsFile (Symbol OpenParenthesis ∷ Word g ∷ Symbol CloseParenthesis ∷ []) (graph_file g 1) }
 {}

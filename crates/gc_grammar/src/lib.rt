@@ -5,5 +5,6 @@
 mod laws;
 
 pub use laws::{
-    a_name_is_a_file, labels_are_spelled, labels_are_spelled_so_alone, parentheses_leave_no_mark,
+    a_name_in_parentheses_is_that_name, a_name_is_a_file, labels_are_spelled,
+    labels_are_spelled_so_alone,
 };

@@ -4,7 +4,7 @@ use Rattle.gc_lex.specs.declared.token.Mark.TheVariants.{OpenParenthesis, CloseP
 use Rattle.gc_grammar.specs.Words.{next}
 use Rattle.gc_grammar.specs.Queries.{start, within}
 use Rattle.gc_grammar.proofs.Spellings.{spells_graph_inside, spells_file, graph_query}
-use Rattle.gc_grammar.proofs.laws.parentheses_leave_no_mark.Goals as goal
+use Rattle.gc_grammar.proofs.laws.a_name_in_parentheses_is_that_name.Goals as goal
 
 pub returns : goal.returns
 returns c = λ g is_name. (
