@@ -7,7 +7,7 @@ use Rattle.gc_spec.specs.PropertyGraph.{Edge}
 use Rattle.gc_ppg.specs.KeyedPlaces.{at_key, ends_from, AreEnds}
 use Rattle.gc_ppg.specs.declared.places.PlaceAt.{PlaceAt}
 
-head_at : {X : Type 0} (n : ℕ) (es : List X) (x : X) (xs : List X) → drop n es ≡ x ∷ xs → (slice_get es n ≡ Some x) × (drop (n + 1) es ≡ xs)
+pub head_at : {X : Type 0} (n : ℕ) (es : List X) (x : X) (xs : List X) → drop n es ≡ x ∷ xs → (slice_get es n ≡ Some x) × (drop (n + 1) es ≡ xs)
 head_at zero es x xs h = let e : 0 + 1 ≡ suc 0 = omega arith in (ap (λ l. slice_get l 0) h, ap (λ k. drop k es) e ∙ ap (drop 1) h)
 head_at (suc n) [] x xs h = absurd (cc)
 head_at (suc n) (e ∷ es) x xs h =

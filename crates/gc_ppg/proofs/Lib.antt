@@ -1,9 +1,10 @@
+pub mod Agreement
 pub mod ElementLists
 pub mod ElementMaps
 pub mod EndPlaces
 pub mod Finds
-pub mod Kept
-pub mod LabelledReads
+pub mod LabelIndexes
+pub mod LabelReads
 pub mod Runs
 pub mod ShapeTables
 pub mod Valid

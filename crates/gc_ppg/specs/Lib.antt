@@ -1,5 +1,7 @@
 pub mod Built
 pub mod KeyedPlaces
+pub mod LabelPlaces
+pub mod LabelReads
 pub mod Labelled
 pub mod LabelledIds
 pub mod Reads

@@ -5,7 +5,8 @@ use Rattle.std.specs.Map.{lookup}
 use Rattle.std.specs.Cmp.Lexicographic.{pointwise}
 use Rattle.gc_base.specs.declared.walk.Step.{Step}
 use Rattle.gc_base.specs.declared.walk.Walk.{Walk}
-use Rattle.gc_spec.specs.Coherence.{ElementShape, NodeShape, EdgeShape, PathShape}
+use Rattle.gc_spec.specs.Coherence.{ElementShape, NodeShape, EdgeShape, PathShape, shapes_of}
+use Rattle.gc_spec.specs.PropertyGraph.{PropertyGraph}
 
 -- whether two steps go along one edge to one node
 abbrev pub same_step : Step → Step → Bool
@@ -34,3 +35,7 @@ shape_among shapes id = lookup (λ other. other == id) shapes
 -- whether an identity has this shape in each of the graphs that has it
 abbrev pub agrees : List (List (ℕ × ElementShape)) → ℕ → ElementShape → Bool
 agrees seen id shape = list_all (λ shapes. allowed (shape_among shapes id) shape) seen
+
+-- whether each element of a graph agrees with what its identity stands for in some graphs
+abbrev pub graph_agrees : List (List (ℕ × ElementShape)) → PropertyGraph → Bool
+graph_agrees seen g = list_all (λ s. agrees seen s.0 s.1) (shapes_of g)

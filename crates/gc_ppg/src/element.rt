@@ -1,5 +1,5 @@
 use crate::kind::{Element, Labelled};
-use gc_base::{Duplicate, Id, LabelSet, Memory, Name, Properties, Walk};
+use gc_base::{Duplicate, Id, LabelSet, Memory, Properties, Walk};
 use std::marker::Model;
 
 /// A node: its identity, labels and properties.
@@ -119,24 +119,24 @@ impl Element for PathInfo {
 impl Labelled for NodeInfo {
     ghost labels_of = { λ n. n.labels };
 
-    fn has_label(&self, label: &Name) -> bool {
-        self.labels.contains(label)
+    fn labels(&self) -> &LabelSet {
+        &self.labels
     }
 }
 
 impl Labelled for EdgeInfo {
     ghost labels_of = { λ e. e.labels };
 
-    fn has_label(&self, label: &Name) -> bool {
-        self.labels.contains(label)
+    fn labels(&self) -> &LabelSet {
+        &self.labels
     }
 }
 
 impl Labelled for PathInfo {
     ghost labels_of = { λ p. p.labels };
 
-    fn has_label(&self, label: &Name) -> bool {
-        self.labels.contains(label)
+    fn labels(&self) -> &LabelSet {
+        &self.labels
     }
 }
 

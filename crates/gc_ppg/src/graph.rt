@@ -1,4 +1,4 @@
-ghost use Rattle.std.specs.Prelude.{◌≡◌, ◌+◌, ◌<◌, ◌==◌, length, slice_get, Some, IfOk};
+ghost use Rattle.std.specs.Prelude.{◌≡◌, ◌+◌, ◌<◌, ◌==◌, length, map, slice_get, Some, IfOk};
 ghost use Rattle.std.specs.List.{filter};
 ghost use Rattle.std.specs.Option.{option_copied, option_and_then};
 ghost use Rattle.gc_spec.specs.PropertyGraph.{IsGraph, node_at, edge_at, path_at};
@@ -7,11 +7,12 @@ ghost use Rattle.gc_ppg.specs.Reads.{handed_out};
 ghost use Rattle.gc_ppg.specs.KeyedPlaces.{AreEnds};
 
 use crate::element::{EdgeInfo, NodeInfo, PathInfo};
-use crate::labelled::{count_labelled, nth_labelled};
+use crate::kind::Element;
+use crate::label_index::LabelIndex;
 use crate::places::{PlaceAt, Places};
 use crate::search::find;
 use crate::shape::Kind;
-use gc_base::{Id, Memory, Name, Numbered, Steps};
+use gc_base::{Duplicate, Id, Memory, Name, Numbered, Steps};
 use std::alloc::Global;
 use std::marker::Model;
 use std::sync::ledger::Ledger;
@@ -25,6 +26,9 @@ pub struct Graph {
     paths: Vec<PathInfo>,
     leaving: Places,
     coming: Places,
+    node_labels: LabelIndex,
+    edge_labels: LabelIndex,
+    path_labels: LabelIndex,
 }
 
 /// A list of graphs, which are named by their numbers.
@@ -38,15 +42,20 @@ impl Model for Graph {
     ghost view = { λ g. record { nodes = g.nodes.items; edges = g.edges.items; paths = g.paths.items } };
 
     ghost use Rattle.gc_ppg.specs.KeyedPlaces.{AreEnds};
+    ghost use Rattle.gc_ppg.specs.LabelPlaces.{IsLabelIndex};
 
     ghost invariant = { λ g.
         IsGraph (record { nodes = g.nodes.items; edges = g.edges.items; paths = g.paths.items })
         × AreEnds (λ e. e.from) g.edges.items g.leaving
-        × AreEnds (λ e. e.to) g.edges.items g.coming };
+        × AreEnds (λ e. e.to) g.edges.items g.coming
+        × IsLabelIndex (λ n. n.labels) g.nodes.items g.node_labels
+        × IsLabelIndex (λ e. e.labels) g.edges.items g.edge_labels
+        × IsLabelIndex (λ p. p.labels) g.paths.items g.path_labels };
 }
 
 impl Graph {
     ghost use Rattle.gc_ppg.specs.LabelledIds.{labelled_ids};
+    ghost use Rattle.gc_ppg.specs.LabelReads.{kind_ids, labelled_places};
 
     // The graph of these elements.
     pub(crate) fn of_elements(
@@ -60,12 +69,18 @@ impl Graph {
     {
         let leaving = by_source(alloc, &edges)?;
         let coming = by_target(alloc, &edges)?;
+        let node_labels = LabelIndex::of(alloc, &nodes)?;
+        let edge_labels = LabelIndex::of(alloc, &edges)?;
+        let path_labels = LabelIndex::of(alloc, &paths)?;
         Ok(Graph {
             nodes,
             edges,
             paths,
             leaving,
             coming,
+            node_labels,
+            edge_labels,
+            path_labels,
         })
     }
 
@@ -172,11 +187,7 @@ impl Graph {
     pub fn label_count(&self, kind: Kind, label: &Name) -> usize
         ensures { result ≡ length (labelled_ids self.now kind label.now) }
     {
-        match kind {
-            Kind::Node => count_labelled(&self.nodes, label),
-            Kind::Edge => count_labelled(&self.edges, label),
-            Kind::Path => count_labelled(&self.paths, label),
-        }
+        self.places_with(kind, label).len()
     }
 
     /// The i-th element of a kind that has a label, by ascending identity, or `None` exactly where
@@ -201,10 +212,31 @@ impl Graph {
     fn nth_with_label(&self, kind: Kind, label: &Name, i: usize) -> Option<Id>
         ensures { result ≡ slice_get (labelled_ids self.now kind label.now) i }
     {
+        match nth_place(self.places_with(kind, label), i) {
+            Some(place) => self.id_at(kind, place),
+            None => None,
+        }
+    }
+
+    // The places of the elements of a kind that have a label, ascending.
+    fn places_with(&self, kind: Kind, label: &Name) -> &[usize]
+        ensures { result.now ≡ labelled_places self.now kind label.now }
+    {
         match kind {
-            Kind::Node => nth_labelled(&self.nodes, label, i),
-            Kind::Edge => nth_labelled(&self.edges, label, i),
-            Kind::Path => nth_labelled(&self.paths, label, i),
+            Kind::Node => self.node_labels.places(label),
+            Kind::Edge => self.edge_labels.places(label),
+            Kind::Path => self.path_labels.places(label),
+        }
+    }
+
+    // The identity of the element of a kind at a place.
+    fn id_at(&self, kind: Kind, place: usize) -> Option<Id>
+        ensures { result ≡ slice_get (kind_ids self.now kind) place }
+    {
+        match kind {
+            Kind::Node => id_of(&self.nodes, place),
+            Kind::Edge => id_of(&self.edges, place),
+            Kind::Path => id_of(&self.paths, place),
         }
     }
 
@@ -243,28 +275,53 @@ impl Graph {
     }
 
     /// The graph of exactly the nodes that have a label, with their labels and properties, and
-    /// without edges and paths. It takes no memory.
-    pub fn labelled(self, label: &Name) -> Graph
-        ensures { result ≡ nodes_with_label self label.now }
+    /// without edges and paths.
+    pub fn labelled(&self, alloc: Global, label: &Name) -> Result<Graph, Memory>
+        ensures { IfOk result (λ g. g ≡ nodes_with_label self.now label.now) }
     {
-        let Graph {
-            nodes,
-            mut edges,
-            mut paths,
-            mut leaving,
-            mut coming,
-        } = self;
-        edges.clear();
-        paths.clear();
-        leaving.clear();
-        coming.clear();
-        Graph {
-            nodes: keep_labelled(nodes, label),
-            edges,
-            paths,
-            leaving,
-            coming,
-        }
+        let kept = labelled_nodes(alloc, self.nodes(), label)?;
+        Graph::of_elements(alloc, kept, Vec::new(alloc), Vec::new(alloc))
+    }
+}
+
+// The i-th of some places.
+fn nth_place(places: &[usize], i: usize) -> Option<usize>
+    ensures { result ≡ slice_get places.now i }
+{
+    match places.get(i) {
+        Some(place) => Some(*place),
+        None => None,
+    }
+}
+
+impl Duplicate for Graph {
+    fn copy(&self) -> Result<Graph, Memory> {
+        let alloc = *self.nodes.allocator();
+        let nodes = copies(alloc, self.nodes())?;
+        let edges = copies(alloc, self.edges())?;
+        let paths = copies(alloc, self.paths())?;
+        Graph::of_elements(alloc, nodes, edges, paths)
+    }
+}
+
+// Copies of elements, in order.
+fn copies<T: Duplicate + Drop>(alloc: Global, elements: &[T]) -> Result<Vec<T>, Memory>
+    ensures { IfOk result (λ copied. copied.items ≡ elements.now) }
+{
+    let mut copied = Vec::with_capacity(alloc, elements.len())?;
+    for element in elements {
+        copied.push(element.copy()?)?;
+    }
+    Ok(copied)
+}
+
+// The identity of the element at a place.
+fn id_of<T: Element>(elements: &[T], place: usize) -> Option<Id>
+    ensures { result ≡ slice_get (map T.id_of elements.now) place }
+{
+    match elements.get(place) {
+        Some(element) => Some(element.id()),
+        None => None,
     }
 }
 
@@ -292,12 +349,17 @@ fn by_target(alloc: Global, edges: &[EdgeInfo]) -> Result<Places, Memory>
     Places::of(places)
 }
 
-// The nodes that have a label, in their order.
-fn keep_labelled(mut nodes: Vec<NodeInfo>, label: &Name) -> Vec<NodeInfo>
-    ensures { result.items ≡ filter (has_label label.now) nodes.items }
+// Copies of the nodes that have a label, in their order.
+fn labelled_nodes(alloc: Global, nodes: &[NodeInfo], label: &Name) -> Result<Vec<NodeInfo>, Memory>
+    ensures { IfOk result (λ kept. kept.items ≡ filter (has_label label.now) nodes.now) }
 {
-    nodes.retain(|node| node.labels.contains(label));
-    nodes
+    let mut kept = Vec::new(alloc);
+    for node in nodes {
+        if node.labels.contains(label) {
+            kept.push(node.copy()?)?;
+        }
+    }
+    Ok(kept)
 }
 
 // An answer, with one step where an element is handed out.

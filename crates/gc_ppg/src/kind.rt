@@ -1,8 +1,6 @@
 ghost use Rattle.std.specs.Prelude.{◌≡◌, ℕ, List};
-ghost use Rattle.gc_base.specs.Ascending.{has};
-ghost use Rattle.gc_base.specs.Literals.{text_order};
 
-use gc_base::{Id, Name};
+use gc_base::{Id, LabelSet};
 
 /// What has an identity: a node, an edge or a stored path.
 pub(crate) trait Element {
@@ -18,6 +16,6 @@ pub(crate) trait Labelled: Element {
     /// Its labels.
     ghost labels_of: { Self → List (List ℕ) };
 
-    fn has_label(&self, label: &Name) -> bool
-        ensures { result ≡ has text_order (labels_of self.now) label.now };
+    fn labels(&self) -> &LabelSet
+        ensures { result.now ≡ labels_of self.now };
 }

@@ -9,10 +9,12 @@ mod coherence;
 mod element;
 mod graph;
 mod kind;
-mod labelled;
+mod label_index;
 mod places;
 mod search;
 mod shape;
+#[cfg(test)]
+mod tests;
 
 pub use builder::{BuildRefusal, GraphBuilder};
 pub use coherence::Coherence;

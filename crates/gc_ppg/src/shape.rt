@@ -1,7 +1,7 @@
 ghost use Rattle.std.specs.Prelude.{◌≡◌, ◌==◌};
 ghost use Rattle.gc_ppg.specs.Shapes.{same_walk};
 
-use gc_base::{Id, Walk};
+use gc_base::{Duplicate, Id, Memory, Walk};
 
 /// The kinds of elements.
 #[derive(Clone, Copy, Debug, PartialEq, Eq)]
@@ -54,6 +54,16 @@ impl Shape {
             Shape::Node => false,
             Shape::Edge(_, _) => false,
             Shape::Path(other) => is_same_walk(walk, other),
+        }
+    }
+}
+
+impl Duplicate for Shape {
+    fn copy(&self) -> Result<Shape, Memory> {
+        match self {
+            Shape::Node => Ok(Shape::Node),
+            Shape::Edge(from, to) => Ok(Shape::Edge(*from, *to)),
+            Shape::Path(walk) => Ok(Shape::Path(walk.copy()?)),
         }
     }
 }
