@@ -1,4 +1,13 @@
 pub mod CanonicalText
+pub mod ElementParts
+pub mod FileElements
+pub mod GraphFiles
+pub mod JsonValues
+pub mod LabelLists
+pub mod LiteralValues
+pub mod PropertyMembers
+pub mod Reading
 pub mod Refusals
 pub mod ThinFiles
+pub mod WalkItems
 pub mod Writing

@@ -4,12 +4,18 @@
 #![tactic(auto)]
 
 mod elements;
+mod fault;
+mod labels;
 mod laws;
+mod literals;
+mod refusal;
 #[cfg(test)]
 mod tests;
 mod text;
 mod thin;
+mod values;
 
 pub use laws::canonical_texts_read_back;
+pub use refusal::{GraphRefusal, Part, Spot};
 pub use text::print;
 pub use thin::{ThinRefusal, load_thin};
