@@ -13,6 +13,7 @@ mod labelled;
 mod places;
 mod search;
 mod shape;
+mod tested;
 
 pub use builder::{BuildRefusal, GraphBuilder};
 pub use coherence::Coherence;
