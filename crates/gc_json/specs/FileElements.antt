@@ -6,7 +6,7 @@ use Rattle.gc_ppg.specs.Built.{with_node, with_edge, with_path}
 use Rattle.gc_ppg.specs.Shapes.{agrees}
 use Rattle.gc_ppg.specs.declared.shape.Kind.{Kind}
 use Rattle.gc_ppg.specs.declared.shape.Kind.TheVariants as kind
-use Rattle.serde_json.specs.Data.{Data}
+use Rattle.serde_json.specs.Data.{Data, Items}
 use Rattle.gc_json.specs.ElementParts.{ElementParts, parts_of, new_id, end_of, described}
 use Rattle.gc_json.specs.JsonValues.{number_at}
 use Rattle.gc_json.specs.WalkItems.{walk_items, walk_in}
@@ -51,20 +51,27 @@ abbrev pub edge_of : PropertyGraph → Data → Result Edge Fault
 edge_of g d = parts_of edge_keys d >>= λ parts. end_numbers d >>= λ numbers. edge_from g parts numbers
 
 -- a stored path of a graph so far: its shape, its identity, its walk, what describes it
-abbrev pub path_of : PropertyGraph → Data → Result Path Fault
-path_of g d =
-    parts_of path_keys d >>= λ parts. walk_items d >>= λ items. new_id g parts.id >>= λ id. walk_in g items >>= λ walk. described parts
+abbrev pub path_from : PropertyGraph → ElementParts → Items → Result Path Fault
+path_from g parts items =
+    new_id g parts.id >>= λ id. walk_in g items >>= λ walk. described parts
     >>= λ about. Ok (record { id = id; walk = walk; labels = about.0; properties = about.1 })
+
+abbrev pub path_of : PropertyGraph → Data → Result Path Fault
+path_of g d = parts_of path_keys d >>= λ parts. walk_items d >>= λ items. path_from g parts items
+
+-- an element whose identity has the same shape in the earlier files that have it
+abbrev pub agreeing : {X : Type 0} → Seen → ℕ → ElementShape → X → Result X Fault
+agreeing seen id shape x = if agrees seen id shape then Ok x else Err (Incoherent id)
 
 -- the graph with a new node, edge or path that agrees with the earlier files
 abbrev pub add_node_of : Seen → PropertyGraph → Data → Result PropertyGraph Fault
-add_node_of seen g d = node_of g d >>= λ n. if agrees seen n.id NodeShape then Ok (with_node g n) else Err (Incoherent n.id)
+add_node_of seen g d = node_of g d >>= λ n. agreeing seen n.id NodeShape (with_node g n)
 
 abbrev pub add_edge_of : Seen → PropertyGraph → Data → Result PropertyGraph Fault
-add_edge_of seen g d = edge_of g d >>= λ e. if agrees seen e.id (EdgeShape e.from e.to) then Ok (with_edge g e) else Err (Incoherent e.id)
+add_edge_of seen g d = edge_of g d >>= λ e. agreeing seen e.id (EdgeShape e.from e.to) (with_edge g e)
 
 abbrev pub add_path_of : Seen → PropertyGraph → Data → Result PropertyGraph Fault
-add_path_of seen g d = path_of g d >>= λ p. if agrees seen p.id (PathShape p.walk) then Ok (with_path g p) else Err (Incoherent p.id)
+add_path_of seen g d = path_of g d >>= λ p. agreeing seen p.id (PathShape p.walk) p >>= λ p. Ok (with_path g p)
 
 -- the graph with one more element of a kind
 abbrev pub add_element_of : Seen → Kind → PropertyGraph → Data → Result PropertyGraph Fault

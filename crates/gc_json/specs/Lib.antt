@@ -4,7 +4,10 @@ pub mod FileElements
 pub mod GraphFiles
 pub mod JsonValues
 pub mod LabelLists
+pub mod ListsSeen
 pub mod LiteralValues
+pub mod Located
+pub mod PartsSeen
 pub mod PropertyMembers
 pub mod Reading
 pub mod Refusals

@@ -1,5 +1,8 @@
 ghost use Rattle.std.specs.Prelude.{◌≡◌};
+ghost use Rattle.gc_json.specs.GraphFiles.{refusal_at};
+ghost use Rattle.gc_json.specs.Located.{failure_at};
 
+use crate::refusal::{GraphRefusal, Spot};
 use gc_base::{Id, Memory};
 
 /// The rule that an element of a graph file breaks.
@@ -51,5 +54,36 @@ impl From<Fault> for Failure<Fault> {
 
     fn from(fault: Fault) -> Failure<Fault> {
         Failure::Refused(fault)
+    }
+}
+
+impl Fault {
+    // The refusal of the file for this fault at a spot.
+    pub(crate) fn at(self, spot: Spot) -> GraphRefusal
+        ensures { result ≡ refusal_at spot self }
+    {
+        match self {
+            Fault::WrongShape => GraphRefusal::WrongShape(spot),
+            Fault::IdTooLarge => GraphRefusal::IdTooLarge(spot),
+            Fault::IdTwice => GraphRefusal::IdTwice(spot),
+            Fault::NoEnd => GraphRefusal::NoEnd(spot),
+            Fault::BadWalk => GraphRefusal::BadWalk(spot),
+            Fault::BadLabel => GraphRefusal::BadLabel(spot),
+            Fault::BadName => GraphRefusal::BadName(spot),
+            Fault::NotLiteral => GraphRefusal::NotLiteral(spot),
+            Fault::Incoherent(id) => GraphRefusal::Incoherent(spot, id),
+        }
+    }
+}
+
+impl Failure<Fault> {
+    // The failure of the file for this one at a spot.
+    pub(crate) fn at(self, spot: Spot) -> Failure<GraphRefusal>
+        ensures { result ≡ failure_at spot self }
+    {
+        match self {
+            Failure::Refused(fault) => Failure::Refused(fault.at(spot)),
+            Failure::Memory => Failure::Memory,
+        }
     }
 }

@@ -1,5 +1,6 @@
 ghost use Rattle.std.specs.Prelude.{◌≡◌, map};
-ghost use Rattle.gc_json.specs.JsonValues.{number_at, is_object_of, has_only, is_key_among, list_at};
+ghost use Rattle.gc_json.specs.JsonValues.{number_at, is_object_of, has_only, is_key_among, list_at, members_at};
+ghost use Rattle.gc_json.specs.PartsSeen.{members_seen};
 ghost use Rattle.gc_json.specs.Reading.{Gives};
 ghost use Rattle.serde_json.specs.Find.{as_object};
 ghost use Rattle.serde_json.specs.View.{view, items_view, members_view};
@@ -52,6 +53,22 @@ pub(crate) fn list_at<'v>(value: &'v Value, key: &str) -> Result<&'v [Value], Fa
         Some(list) => match list.as_array() {
             None => Err(Failure::Refused(Fault::WrongShape)),
             Some(list) => Ok(list),
+        },
+    }
+}
+
+// The members of the object at a key, if the key is there.
+pub(crate) fn members_at<'v>(
+    value: &'v Value,
+    key: &str,
+) -> Result<Option<&'v Map<String, Value>>, Failure<Fault>>
+    ensures { Gives members_seen (members_at key.now (view value.now)) result }
+{
+    match value.get(key) {
+        None => Ok(None),
+        Some(members) => match members.as_object() {
+            None => Err(Failure::Refused(Fault::WrongShape)),
+            Some(members) => Ok(Some(members)),
         },
     }
 }
