@@ -8,7 +8,7 @@ use Rattle.gcore.specs.Lines.{line_of, status_of}
 use Rattle.gcore.specs.Outcomes.{outcome, text_of, graph_due}
 use Rattle.gcore.specs.declared.command.Command.{Command}
 use Rattle.gcore.specs.declared.command.Command.TheVariants.{Run}
-use Rattle.gcore.specs.declared.command.Pair.{Pair}
+use Rattle.gcore.specs.declared.pair.Pair.{Pair}
 use Rattle.gcore.specs.declared.status.Status.{Status}
 use Rattle.gcore.specs.declared.status.Status.TheVariants.{Done}
 use Rattle.gcore.specs.declared.stop.Stop.{Stop}

@@ -10,7 +10,7 @@ use Rattle.gcore.specs.declared.command.Command.{Command}
 use Rattle.gcore.specs.declared.command.Command.TheVariants.{Run}
 use Rattle.gcore.specs.declared.command.CommandRefusal.{CommandRefusal}
 use Rattle.gcore.specs.declared.command.CommandRefusal.TheVariants as refusal
-use Rattle.gcore.specs.declared.command.Pair.{Pair}
+use Rattle.gcore.specs.declared.pair.Pair.{Pair}
 use Rattle.gcore.specs.declared.stop.Stop.{Stop}
 use Rattle.gcore.specs.declared.stop.Stop.TheVariants.{Usage, Unread, TooLarge, NotBuilt, OutOfMemory}
 

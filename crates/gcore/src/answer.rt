@@ -5,7 +5,8 @@ ghost use Rattle.gcore.specs.CommandLines.{HasOneGraph};
 ghost use Rattle.gcore.specs.Endings.{Answers, Call, Change, HoldsText, WritesText};
 ghost use Rattle.gcore.specs.declared.command.Command.TheVariants.{Run};
 
-use crate::command::{Command, Pair};
+use crate::command::Command;
+use crate::pair::Pair;
 use crate::inputs::{read_graph, read_label};
 use crate::stop::Stop;
 use gc_base::{Bytes, Memory, Name, Steps, Str};
@@ -76,7 +77,7 @@ fn print_labelled<L: Ledger>(
 ) -> Result<Bytes, Memory>
     ensures { IfOk result (λ text. text ≡ printed graph label.now) }
 {
-    let selected = graph.labelled(label);
+    let selected = graph.labelled(alloc, label)?;
     let mut text = print(alloc, &selected, steps)?;
     text.push(b'\n')?;
     Ok(text)
