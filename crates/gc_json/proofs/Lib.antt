@@ -3,4 +3,5 @@ pub mod GraphsReadBack
 pub mod ReadsBack
 mod Rest
 mod Turns
+mod WalkTurns
 mod WordTexts

@@ -1,4 +1,16 @@
 pub mod CanonicalText
+pub mod ElementParts
+pub mod FileElements
+pub mod GraphFiles
+pub mod JsonValues
+pub mod LabelLists
+pub mod ListsSeen
+pub mod LiteralValues
+pub mod Located
+pub mod PartsSeen
+pub mod PropertyMembers
+pub mod Reading
 pub mod Refusals
 pub mod ThinFiles
+pub mod WalkItems
 pub mod Writing

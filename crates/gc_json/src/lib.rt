@@ -3,13 +3,27 @@
 //! This crate knows of no query and opens no file.
 #![tactic(auto)]
 
+mod edges;
 mod elements;
+mod fault;
+mod labels;
 mod laws;
+mod literals;
+mod loading;
+mod nodes;
+mod parts;
+mod paths;
+mod properties;
+mod refusal;
 #[cfg(test)]
 mod tests;
 mod text;
 mod thin;
+mod values;
+mod walks;
 
 pub use laws::canonical_texts_read_back;
+pub use loading::load;
+pub use refusal::{GraphRefusal, Part, Spot};
 pub use text::print;
 pub use thin::{ThinRefusal, load_thin};

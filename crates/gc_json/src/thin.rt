@@ -1,13 +1,15 @@
-ghost use Rattle.std.specs.Prelude.{◌≡◌, [], ◌∷◌, map, option_and_then, codes};
+ghost use Rattle.std.specs.Prelude.{◌≡◌, [], option_and_then, codes};
 ghost use Rattle.gc_json.specs.Refusals.{Gives, GivesBy};
-ghost use Rattle.gc_json.specs.ThinFiles.{thin_graph, graph_of, value_of, is_thin_object, graph_of_nodes, graph_of_items, graph_with, with_new_node, node_of, node_from, labels_of, labels_with, label_of, id_of, number_at, is_object_of, has_only, is_key_among};
+ghost use Rattle.gc_json.specs.JsonValues.{value_of};
+ghost use Rattle.gc_json.specs.ThinFiles.{thin_graph, graph_of, is_thin_object, graph_of_nodes, graph_of_items, graph_with, with_new_node, node_of, node_from, labels_of, labels_with, label_of};
 ghost use Rattle.gc_spec.specs.PropertyGraph.{empty_graph};
-ghost use Rattle.serde_json.specs.Find.{get, as_object, as_str};
-ghost use Rattle.serde_json.specs.View.{view, items_view, members_view};
+ghost use Rattle.serde_json.specs.Find.{get, as_str};
+ghost use Rattle.serde_json.specs.View.{view, items_view};
 
+use crate::values::{is_object_of, number_at};
 use gc_base::{Id, LabelSet, Memory, Name, Properties};
 use gc_ppg::{BuildRefusal, Graph, GraphBuilder, NodeInfo};
-use serde_json::{Map, Value};
+use serde_json::Value;
 use std::alloc::Global;
 
 /// The most nodes that a file may list.
@@ -167,40 +169,4 @@ fn label_of(alloc: Global, value: &Value) -> Result<Name, ThinRefusal>
 {
     let text = value.as_str().ok_or(ThinRefusal::NotThin)?;
     Name::of(alloc, text.as_bytes())?.ok_or(ThinRefusal::NotThin)
-}
-
-// The whole number at a key of an object.
-fn number_at(value: &Value, key: &str) -> Option<u64>
-    ensures { result ≡ number_at key.now (view value.now) }
-{
-    value.get(key).and_then(Value::as_u64)
-}
-
-// Whether a value is an object with no key but these.
-fn is_object_of(value: &Value, keys: &[&str]) -> bool
-    ensures { result ≡ is_object_of (map (λ k. k.now) keys.now) (as_object (view value.now)) }
-{
-    match value.as_object() {
-        None => false,
-        Some(members) => has_only(members, keys),
-    }
-}
-
-// Whether each member has one of these keys.
-fn has_only(members: &Map<String, Value>, keys: &[&str]) -> bool
-    ensures { result ≡ has_only (map (λ k. k.now) keys.now) (members_view members.now.entries) }
-{
-    members.keys().all(|key| is_key_among(key, keys))
-}
-
-// Whether a key is among some.
-fn is_key_among(key: &str, keys: &[&str]) -> bool
-    ensures { result ≡ is_key_among (map (λ k. k.now) keys.now) key.now }
-{
-    for other in keys {
-        if key == *other {
-            return true;
-        }
-    }
-    false
 }

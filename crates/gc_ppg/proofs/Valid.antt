@@ -10,10 +10,10 @@ use Rattle.gc_base.specs.Ascending.{Ascends, with_item}
 use Rattle.gc_base.specs.declared.walk.Step.{Step}
 use Rattle.gc_base.proofs.Search.{AllByRecursion-weaker}
 use Rattle.gc_base.proofs.SetLaws.{Ascends-with_item, AllByRecursion-with_item, Ascends-filter, AllByRecursion-filter}
-use Rattle.gc_spec.specs.PropertyGraph.{Node, Edge, Path, IsNode, IsEdge, IsPath, IsGraph, PropertyGraph, node_order, edge_order, path_order, node_ids, edge_ids, path_ids, is_among, is_joined, are_steps_from, AreDistinct, ids_of}
-use Rattle.gc_ppg.specs.Built.{with_node, with_edge, with_path, missing_end, bad_step, IsEdgeAlone, IsPathAlone}
+use Rattle.gc_spec.specs.PropertyGraph.{Node, Edge, Path, IsNode, IsEdge, IsPath, IsGraph, PropertyGraph, node_order, edge_order, path_order, node_ids, edge_ids, path_ids, is_among, is_joined, are_steps_from, is_walk, AreDistinct, ids_of}
+use Rattle.gc_ppg.specs.Built.{with_node, with_edge, with_path, missing_end, IsEdgeAlone, IsPathAlone}
 use Rattle.gc_ppg.proofs.ElementLists.{or_false, or_right, is_among-with_item, list_any-with_item, AreDistinct-with_item}
-use Rattle.gc_ppg.proofs.WalkTests.{ends_there, walk_there}
+use Rattle.gc_ppg.proofs.WalkTests.{ends_there}
 
 both_true : (a b : Bool) → a ≡ true → b ≡ true → (a && b) ≡ true
 both_true true b h k = k
@@ -86,7 +86,7 @@ IsGraph-with_edge g e h one f there =
           g.paths h.paths;
     }
 
-pub IsGraph-with_path : (g : PropertyGraph) (p : Path) → IsGraph g → IsPathAlone p → is_among (ids_of g) p.id ≡ false → bad_step g.nodes g.edges p.walk ≡ None → IsGraph (with_path g p)
+pub IsGraph-with_path : (g : PropertyGraph) (p : Path) → IsGraph g → IsPathAlone p → is_among (ids_of g) p.id ≡ false → is_walk g.nodes g.edges p.walk ≡ true → IsGraph (with_path g p)
 IsGraph-with_path g p h one f there =
     let fresh = fresh_parts (node_ids g.nodes) (edge_ids g.edges) (path_ids g.paths) p.id f in
     let before = node_ids g.nodes ++ edge_ids g.edges in
@@ -103,7 +103,7 @@ IsGraph-with_path g p h one f there =
       edges = h.edges;
       paths =
           AllByRecursion-with_item path_order (IsPath g.nodes g.edges) g.paths p h.paths
-          (record { id = one.id; walk = walk_there g.nodes g.edges p.walk there; labels = one.labels; properties = one.properties });
+          (record { id = one.id; walk = there; labels = one.labels; properties = one.properties });
     }
 
 above_others : (ns : List Node) (n : Node) → AllByRecursion (λ m. node_order n m ≡ Less) ns → is_among (node_ids ns) n.id ≡ false

@@ -35,9 +35,9 @@ impl From<Memory> for BuildRefusal {
 #[derive(Drop)]
 pub struct GraphBuilder {
     alloc: Global,
-    nodes: ById<NodeInfo>,
-    edges: ById<EdgeInfo>,
-    paths: ById<PathInfo>,
+    pub(crate) nodes: ById<NodeInfo>,
+    pub(crate) edges: ById<EdgeInfo>,
+    pub(crate) paths: ById<PathInfo>,
 }
 
 impl Model for GraphBuilder {
@@ -75,8 +75,7 @@ impl GraphBuilder {
         if self.is_taken(node.id) {
             return Err(BuildRefusal::Taken(node.id));
         }
-        node.known();
-        self.nodes.add(node)?;
+        self.put_node(node)?;
         Ok(())
     }
 
@@ -95,8 +94,7 @@ impl GraphBuilder {
         if let Some(end) = self.missing_end(&edge) {
             return Err(BuildRefusal::NoEnd(end));
         }
-        edge.known();
-        self.edges.add(edge)?;
+        self.put_edge(edge)?;
         Ok(())
     }
 
@@ -115,8 +113,7 @@ impl GraphBuilder {
         if let Some(step) = self.bad_step(&path.walk) {
             return Err(BuildRefusal::BadWalk(step));
         }
-        path.known();
-        self.paths.add(path)?;
+        self.put_path(path)?;
         Ok(())
     }
 
@@ -136,8 +133,8 @@ impl GraphBuilder {
         Graph::of_elements(alloc, nodes, edges, paths)
     }
 
-    // Whether an identity is in the builder.
-    fn is_taken(&self, id: Id) -> bool
+    /// Whether an identity is in the builder.
+    pub fn is_taken(&self, id: Id) -> bool
         ensures { result ≡ is_among (ids_of self.now) id }
     {
         self.nodes.has(id) || self.edges.has(id) || self.paths.has(id)
@@ -157,7 +154,7 @@ impl GraphBuilder {
     }
 
     // The step at which a walk fails.
-    fn bad_step(&self, walk: &Walk) -> Option<u64>
+    pub(crate) fn bad_step(&self, walk: &Walk) -> Option<u64>
         ensures { result ≡ bad_step self.now.nodes self.now.edges walk.now }
     {
         if self.nodes.has(walk.start) {

@@ -13,6 +13,7 @@ mod label_index;
 mod places;
 mod search;
 mod shape;
+mod tested;
 #[cfg(test)]
 mod tests;
 

@@ -1,9 +1,9 @@
 use Rattle.std.proofs.Common.{map, string_bytes, rules, tests, ◌∙◌}
 use Rattle.std.proofs.lemmas.Iterator.Consumers.{YieldsList-from_rest}
 use Rattle.std.proofs.lemmas.Iterator.Search.{all_from_yields_List}
-use Rattle.gc_json.specs.ThinFiles.{is_key_among}
+use Rattle.gc_json.specs.JsonValues.{is_key_among}
 use Rattle.gc_json.proofs.Keys.{has_only-members_view}
-use Rattle.gc_json.proofs.thin.has_only.Goals as goal
+use Rattle.gc_json.proofs.values.has_only.Goals as goal
 
 pub returns : goal.returns
 returns c =

@@ -1,6 +1,6 @@
 use Rattle.std.proofs.Common.{◌≡◌, map, drop}
-use Rattle.gc_json.specs.ThinFiles.{is_key_among}
-use Rattle.gc_json.proofs.thin.is_key_among.Given as goal
+use Rattle.gc_json.specs.JsonValues.{is_key_among}
+use Rattle.gc_json.proofs.values.is_key_among.Given as goal
 
 -- the key is among the rest just where it is among all
 abbrev pub invariant-loop-other : goal.invariant-loop-other

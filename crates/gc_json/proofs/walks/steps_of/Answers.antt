@@ -1,0 +1,12 @@
+use Rattle.std.proofs.Common.{◌*◌, sym, ◌∙◌, arith}
+use Rattle.gc_json.proofs.WalkTurns.{turned, edge_alone}
+use Rattle.gc_json.proofs.walks.steps_of.Goals as goal
+
+pub loop-i-preserved : goal.loop-i-preserved
+loop-i-preserved c =
+    turned c.args.items.now (2 * c.loop-i.i) _ c.loop-i.steps _ _ _ _ (omega arith) (omega arith) c.index-items-i.is c.index-items-i-in-loop-i.is c.in_ok-step.ensures
+    c.in_ok-push.ensures.ok
+    ∙ c.loop-i.invariant
+
+pub returns-then-items-ne0 : goal.returns-then-items-ne0
+returns-then-items-ne0 c = sym c.loop-i.invariant ∙ edge_alone c.args.items.now (2 * c.loop-i.i) c.loop-i.steps (omega arith)

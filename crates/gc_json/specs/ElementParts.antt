@@ -1,0 +1,48 @@
+-- What each element of a graph file has: an identity, maybe labels and properties.
+use Rattle.std.specs.Prelude.{ℕ, ◌∷◌, List, [], codes, if◌then◌else◌, Result, Ok, Err}
+use Rattle.gc_base.specs.declared.properties.Property.{Property}
+use Rattle.gc_spec.specs.PropertyGraph.{PropertyGraph, ids_of, node_ids, is_among}
+use Rattle.serde_json.specs.Data.{Data, Items, Members}
+use Rattle.serde_json.specs.Find.{as_object}
+use Rattle.gc_json.specs.JsonValues.{is_object_of, number_at, list_at, members_at, id_of}
+use Rattle.gc_json.specs.LabelLists.{labels_with}
+use Rattle.gc_json.specs.PropertyMembers.{properties_of}
+use Rattle.gc_json.specs.Reading.{◌>>=◌, or_refused}
+use Rattle.gc_json.specs.declared.fault.Fault.{Fault}
+use Rattle.gc_json.specs.declared.fault.Fault.TheVariants.{WrongShape, IdTooLarge, IdTwice, NoEnd}
+
+-- the number of an element, and its labels and properties as they stand in the file
+pub record ElementParts : Type 0 where
+  pub id : ℕ
+  pub labels : Items
+  pub properties : Members
+
+-- the parts of an object
+abbrev pub parts_at : Data → Result ElementParts Fault
+parts_at d =
+    or_refused WrongShape (number_at (codes "id") d) >>= λ id. list_at (codes "labels") d >>= λ labels. members_at (codes "properties") d
+    >>= λ properties. Ok (record { id = id; labels = labels; properties = properties })
+
+-- the parts of an object with no key but these
+abbrev pub parts_of : List (List ℕ) → Data → Result ElementParts Fault
+parts_of keys d = if is_object_of keys (as_object d) then parts_at d else Err WrongShape
+
+-- an identity that no element has yet
+abbrev pub fresh_id : PropertyGraph → ℕ → Result ℕ Fault
+fresh_id g id = if is_among (ids_of g) id then Err IdTwice else Ok id
+
+-- the identity of a number, which is not too large and new
+abbrev pub new_id : PropertyGraph → ℕ → Result ℕ Fault
+new_id g n = or_refused IdTooLarge (id_of n) >>= fresh_id g
+
+-- an identity of a node
+abbrev pub node_id : PropertyGraph → ℕ → Result ℕ Fault
+node_id g id = if is_among (node_ids g.nodes) id then Ok id else Err NoEnd
+
+-- the end of an edge, which is a node
+abbrev pub end_of : PropertyGraph → ℕ → Result ℕ Fault
+end_of g n = or_refused NoEnd (id_of n) >>= node_id g
+
+-- the labels and the properties: all labels are tested before all properties
+abbrev pub described : ElementParts → Result (List (List ℕ) × List Property) Fault
+described parts = labels_with [] parts.labels >>= λ labels. properties_of parts.properties >>= λ properties. Ok (labels, properties)

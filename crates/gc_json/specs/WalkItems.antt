@@ -1,0 +1,54 @@
+-- The walk of a stored path in a graph file.
+use Rattle.std.specs.Prelude.{ℕ, ◌&&◌, Bool, true, List, [], ◌∷◌, ◌++◌, codes, if◌then◌else◌, Option, option_and_then, Result, Ok, Err}
+use Rattle.std.specs.Option.{is_some}
+use Rattle.gc_base.specs.declared.walk.Step.{Step}
+use Rattle.gc_base.specs.declared.walk.Walk.{Walk}
+use Rattle.gc_spec.specs.PropertyGraph.{PropertyGraph, is_walk}
+use Rattle.serde_json.specs.Data.{Data, Items, no_items, item}
+use Rattle.serde_json.specs.Find.{get, as_number, as_u64, as_array}
+use Rattle.gc_json.specs.JsonValues.{id_of}
+use Rattle.gc_json.specs.Reading.{◌>>=◌, or_refused}
+use Rattle.gc_json.specs.declared.fault.Fault.{Fault}
+use Rattle.gc_json.specs.declared.fault.Fault.TheVariants.{WrongShape, BadWalk}
+
+-- the whole number that a value is
+abbrev pub number_of : Data → Option ℕ
+number_of d = option_and_then as_u64 (as_number d)
+
+-- whether each item is a whole number
+abbrev pub are_numbers : Items → Bool
+are_numbers no_items = true
+are_numbers (item d ds) = is_some (number_of d) && are_numbers ds
+
+abbrev pub numbers_of : Items → Result Items Fault
+numbers_of ds = if are_numbers ds then Ok ds else Err WrongShape
+
+-- the array of numbers at the key `walk`
+abbrev pub walk_items : Data → Result Items Fault
+walk_items d = or_refused WrongShape (option_and_then as_array (get (codes "walk") d)) >>= numbers_of
+
+-- an identity on a walk
+abbrev pub id_on_walk : Data → Result ℕ Fault
+id_on_walk d = or_refused BadWalk (option_and_then id_of (number_of d))
+
+-- an edge and a node
+abbrev pub step_of : Data → Data → Result Step Fault
+step_of d e = id_on_walk d >>= λ edge. id_on_walk e >>= λ node. Ok (record { edge = edge; node = node })
+
+-- the steps with those of an array of edges and nodes in turn
+abbrev pub steps_with : List Step → Items → Result (List Step) Fault
+steps_with steps no_items = Ok steps
+steps_with steps (item d no_items) = Err BadWalk
+steps_with steps (item d (item e ds)) = step_of d e >>= λ step. steps_with (steps ++ step ∷ []) ds
+
+-- a node, and then steps
+abbrev pub walk_of : Items → Result Walk Fault
+walk_of no_items = Err BadWalk
+walk_of (item d ds) = id_on_walk d >>= λ start. steps_with [] ds >>= λ steps. Ok (record { start = start; steps = steps })
+
+-- a walk of the graph
+abbrev pub known_walk : PropertyGraph → Walk → Result Walk Fault
+known_walk g walk = if is_walk g.nodes g.edges walk then Ok walk else Err BadWalk
+
+abbrev pub walk_in : PropertyGraph → Items → Result Walk Fault
+walk_in g ds = walk_of ds >>= known_walk g

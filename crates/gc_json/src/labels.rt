@@ -1,0 +1,30 @@
+ghost use Rattle.std.specs.Prelude.{[]};
+ghost use Rattle.gc_json.specs.LabelLists.{label_of, labels_with};
+ghost use Rattle.gc_json.specs.Reading.{Gives};
+ghost use Rattle.serde_json.specs.View.{view, items_view};
+
+use crate::fault::{Failure, Fault};
+use gc_base::{LabelSet, Name};
+use serde_json::Value;
+use std::alloc::Global;
+
+// The labels of a list.
+pub(crate) fn labels_in(alloc: Global, items: &[Value]) -> Result<LabelSet, Failure<Fault>>
+    ensures { Gives (λ labels. labels) (labels_with [] (items_view items.now)) result }
+{
+    let mut labels = LabelSet::empty(alloc);
+    for item in items {
+        let label = label_of(alloc, item)?;
+        labels.insert(label)?;
+    }
+    Ok(labels)
+}
+
+// The label that a text is.
+fn label_of(alloc: Global, value: &Value) -> Result<Name, Failure<Fault>>
+    ensures { Gives (λ label. label) (label_of (view value.now)) result }
+{
+    let text = value.as_str().ok_or(Fault::BadLabel)?;
+    let label = Name::of(alloc, text.as_bytes())?;
+    Ok(label.ok_or(Fault::BadLabel)?)
+}

@@ -1,0 +1,224 @@
+ghost use Rattle.std.specs.Prelude.{◌≡◌, ◌+◌, ◌-◌, ◌^◌, min, length};
+ghost use Rattle.gc_spec.specs.PropertyGraph.{empty_graph};
+ghost use Rattle.gc_json.specs.FileElements.{add_element_of};
+ghost use Rattle.gc_json.specs.GraphFiles.{add_elements_of, file_graph, graph_of_data, graph_of_few, graph_of_lists, is_file_object, lists_at, lists_of, located, part_of, refusal_at, whole, Loads};
+ghost use Rattle.gc_json.specs.JsonValues.{value_of};
+ghost use Rattle.gc_json.specs.ListsSeen.{lists_seen};
+ghost use Rattle.gc_json.specs.Reading.{Gives, or_refused};
+ghost use Rattle.gc_json.specs.declared.fault.Failure.TheVariants as failure;
+ghost use Rattle.gc_json.specs.declared.refusal.GraphRefusal.TheVariants as refusal;
+ghost use Rattle.serde_json.specs.View.{view, items_view};
+
+use crate::edges::add_edge;
+use crate::fault::{Failure, Fault};
+use crate::nodes::add_node;
+use crate::paths::add_path;
+use crate::refusal::{GraphRefusal, Part, Spot};
+use crate::values::{is_object_of, list_at, number_at};
+use gc_ppg::{Coherence, Graph, GraphBuilder, Kind};
+use serde_json::Value;
+use std::alloc::Global;
+
+/// The most elements that a file may list.
+const MOST_ELEMENTS: usize = 1_000_000;
+
+/// The graph of a graph file, beside the graphs of the files before it. A file that has none is
+/// refused for the first rule that it breaks: its JSON, its shape, the number of its elements, and
+/// then element by element, nodes before edges before paths.
+pub fn load(alloc: Global, bytes: &[u8], seen: &Coherence) -> Result<Graph, GraphRefusal>
+    ensures { Loads (file_graph seen.now bytes.now) result }
+{
+    match graph_of(alloc, bytes, seen) {
+        Ok(builder) => Ok(builder.finish()?),
+        Err(Failure::Refused(refusal)) => Err(refusal),
+        Err(Failure::Memory) => Err(GraphRefusal::Memory),
+    }
+}
+
+// The graph of a file.
+fn graph_of(
+    alloc: Global,
+    bytes: &[u8],
+    seen: &Coherence,
+) -> Result<GraphBuilder, Failure<GraphRefusal>>
+    ensures { Gives (λ builder. builder) (file_graph seen.now bytes.now) result }
+{
+    let value = read(alloc, bytes)?;
+    let builder = graph_of_value(alloc, &value, seen)?;
+    drop(value);
+    Ok(builder)
+}
+
+// The value of JSON text.
+fn read(alloc: Global, bytes: &[u8]) -> Result<Value, Failure<GraphRefusal>>
+    ensures { Gives view (or_refused refusal.NotJson (value_of bytes.now)) result }
+{
+    match Value::from_slice(alloc, bytes) {
+        Ok(value) => Ok(value),
+        Err(error) if error.is_memory() => Err(Failure::Memory),
+        Err(_) => Err(Failure::Refused(GraphRefusal::NotJson)),
+    }
+}
+
+// The graph of a value.
+fn graph_of_value(
+    alloc: Global,
+    value: &Value,
+    seen: &Coherence,
+) -> Result<GraphBuilder, Failure<GraphRefusal>>
+    ensures { Gives (λ builder. builder) (graph_of_data seen.now (view value.now)) result }
+{
+    match lists_of(value) {
+        Ok(lists) => graph_of_few(alloc, lists, seen),
+        Err(failure) => Err(failure.at(WHOLE)),
+    }
+}
+
+// The spot of the file as a whole.
+const WHOLE: Spot = Spot {
+    part: Part::Whole,
+    index: 0,
+};
+
+// The lists of a file.
+#[derive(Clone, Copy)]
+pub(crate) struct Lists<'v> {
+    nodes: &'v [Value],
+    edges: &'v [Value],
+    paths: &'v [Value],
+}
+
+impl Lists<'_> {
+    // How many items there are.
+    fn count(&self) -> usize
+        ensures { result ≡ min (2 ^ 64 - 1) (length self.now.nodes.now + length self.now.edges.now + length self.now.paths.now) }
+    {
+        self.nodes
+            .len()
+            .saturating_add(self.edges.len())
+            .saturating_add(self.paths.len())
+    }
+}
+
+// The lists of an object of the version 1.
+fn lists_of<'v>(value: &'v Value) -> Result<Lists<'v>, Failure<Fault>>
+    ensures { Gives lists_seen (lists_of (view value.now)) result }
+{
+    if !is_file_object(value) {
+        return Err(Failure::Refused(Fault::WrongShape));
+    }
+    lists_at(value)
+}
+
+// Whether a value is an object with no unknown key, and of the version 1.
+fn is_file_object(value: &Value) -> bool
+    ensures { result ≡ is_file_object (view value.now) }
+{
+    is_object_of(value, &["edges", "gcore", "nodes", "paths"])
+        && number_at(value, "gcore") == Some(1)
+}
+
+fn lists_at<'v>(value: &'v Value) -> Result<Lists<'v>, Failure<Fault>>
+    ensures { Gives lists_seen (lists_at (view value.now)) result }
+{
+    let nodes = list_at(value, "nodes")?;
+    let edges = list_at(value, "edges")?;
+    let paths = list_at(value, "paths")?;
+    Ok(Lists {
+        nodes,
+        edges,
+        paths,
+    })
+}
+
+// The graph of lists that are not too long together.
+fn graph_of_few(
+    alloc: Global,
+    lists: Lists,
+    seen: &Coherence,
+) -> Result<GraphBuilder, Failure<GraphRefusal>>
+    ensures { Gives (λ builder. builder) (graph_of_few seen.now (lists_seen lists.entry)) result }
+{
+    if lists.count() > MOST_ELEMENTS {
+        return Err(Failure::Refused(GraphRefusal::TooMany));
+    }
+    graph_of_lists(alloc, lists, seen)
+}
+
+// The graph of the lists: nodes, then edges, then paths.
+fn graph_of_lists(
+    alloc: Global,
+    lists: Lists,
+    seen: &Coherence,
+) -> Result<GraphBuilder, Failure<GraphRefusal>>
+    ensures { Gives (λ builder. builder) (graph_of_lists seen.now (lists_seen lists.entry)) result }
+{
+    let mut builder = GraphBuilder::new(alloc);
+    add_elements(alloc, &mut builder, seen, Kind::Node, lists.nodes)?;
+    add_elements(alloc, &mut builder, seen, Kind::Edge, lists.edges)?;
+    add_elements(alloc, &mut builder, seen, Kind::Path, lists.paths)?;
+    Ok(builder)
+}
+
+// Adds the elements of a list, one after another.
+fn add_elements(
+    alloc: Global,
+    builder: &mut GraphBuilder,
+    seen: &Coherence,
+    kind: Kind,
+    values: &[Value],
+) -> Result<(), Failure<GraphRefusal>>
+    ensures { Gives (λ _. builder.new) (add_elements_of seen.now kind 0 builder.old (items_view values.now)) result }
+{
+    for (index, value) in values.iter().enumerate() {
+        add_located(alloc, builder, seen, kind, index, value)?;
+    }
+    Ok(())
+}
+
+// Adds the element at an index of its list.
+fn add_located(
+    alloc: Global,
+    builder: &mut GraphBuilder,
+    seen: &Coherence,
+    kind: Kind,
+    index: usize,
+    value: &Value,
+) -> Result<(), Failure<GraphRefusal>>
+    ensures { Gives (λ _. builder.new)
+        (located (record { part = part_of kind; index = index }) (add_element_of seen.now kind builder.old (view value.now))) result }
+{
+    let part = part_of(kind);
+    match add_element(alloc, builder, seen, kind, value) {
+        Ok(()) => Ok(()),
+        Err(failure) => Err(failure.at(Spot { part, index })),
+    }
+}
+
+// Adds an element of a kind.
+fn add_element(
+    alloc: Global,
+    builder: &mut GraphBuilder,
+    seen: &Coherence,
+    kind: Kind,
+    value: &Value,
+) -> Result<(), Failure<Fault>>
+    ensures { Gives (λ _. builder.new) (add_element_of seen.now kind builder.old (view value.now)) result }
+{
+    match kind {
+        Kind::Node => add_node(alloc, builder, seen, value),
+        Kind::Edge => add_edge(alloc, builder, seen, value),
+        Kind::Path => add_path(alloc, builder, seen, value),
+    }
+}
+
+// The list of a kind.
+fn part_of(kind: Kind) -> Part
+    ensures { result ≡ part_of kind }
+{
+    match kind {
+        Kind::Node => Part::Nodes,
+        Kind::Edge => Part::Edges,
+        Kind::Path => Part::Paths,
+    }
+}

@@ -1,0 +1,43 @@
+ghost use Rattle.std.specs.Prelude.{◌≡◌, false, IfOk};
+ghost use Rattle.gc_spec.specs.PropertyGraph.{ids_of, is_among};
+ghost use Rattle.gc_json.specs.FileElements.{node_of, add_node_of};
+ghost use Rattle.gc_json.specs.Reading.{Gives};
+ghost use Rattle.serde_json.specs.View.{view};
+
+use crate::fault::{Failure, Fault};
+use crate::parts::{described, new_id, parts_of};
+use gc_ppg::{Coherence, GraphBuilder, NodeInfo, Shape};
+use serde_json::Value;
+use std::alloc::Global;
+
+// Adds the node that a value is.
+pub(crate) fn add_node(
+    alloc: Global,
+    builder: &mut GraphBuilder,
+    seen: &Coherence,
+    value: &Value,
+) -> Result<(), Failure<Fault>>
+    ensures { Gives (λ _. builder.new) (add_node_of seen.now builder.old (view value.now)) result }
+{
+    let node = node_of(alloc, builder, value)?;
+    if !seen.agrees(node.id, &Shape::Node) {
+        return Err(Failure::Refused(Fault::Incoherent(node.id)));
+    }
+    builder.put_node(node)?;
+    Ok(())
+}
+
+// The node that a value is in the graph so far.
+fn node_of(alloc: Global, builder: &GraphBuilder, value: &Value) -> Result<NodeInfo, Failure<Fault>>
+    ensures exact { Gives (λ node. node) (node_of builder.now (view value.now)) result }
+    ensures fresh { IfOk result (λ node. is_among (ids_of builder.now) node.id ≡ false) }
+{
+    let parts = parts_of(value, &["id", "labels", "properties"])?;
+    let id = new_id(builder, parts.id)?;
+    let (labels, properties) = described(alloc, &parts)?;
+    Ok(NodeInfo {
+        id,
+        labels,
+        properties,
+    })
+}
