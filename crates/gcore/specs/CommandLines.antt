@@ -53,6 +53,14 @@ abbrev pub command_of : List (List ℕ) → Option Command
 command_of [] = None
 command_of (verb ∷ words) = form_of verb words
 
+-- a command has one to eight graph files, under names that differ, where it has any
+abbrev pub HasGraphs : Command → Type 0
+HasGraphs (Run query pairs) = are_graphs pairs ≡ true
+HasGraphs (Cert query pairs) = are_graphs pairs ≡ true
+HasGraphs (Explain query pairs) = are_graphs pairs ≡ true
+HasGraphs (Check document) = ⊤
+HasGraphs (Make kind size start) = ⊤
+
 -- what is due, or `Usage` exactly where nothing is; want of memory is free
 abbrev pub Answers : {X : Type 0} → Option X → Result X CommandRefusal → Type 0
 Answers due (Ok x) = due ≡ Some x
@@ -85,3 +93,6 @@ IsPair word answer = Answers (pair_of word) answer
 
 abbrev pub IsNamedFile : List ℕ → List ℕ → Result Pair CommandRefusal → Type 0
 IsNamedFile name file answer = Answers (named_file name file) answer
+
+abbrev pub ArePairs : List (List ℕ) → Result (List Pair) CommandRefusal → Type 0
+ArePairs words answer = Answers (pairs_of words) answer

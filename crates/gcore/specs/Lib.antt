@@ -1,5 +1,7 @@
 pub mod CommandLines
 pub mod Endings
+pub mod GraphLines
+pub mod GraphSteps
 pub mod Lines
 pub mod MakeLines
 pub mod Outcomes

@@ -1,5 +1,6 @@
 -- What a made graph is made from: its kind, its size and a start.
 use Rattle.std.specs.Prelude.{ℕ, ◌&&◌, Bool, List, length, codes, nat_eq, nat_le, nat_lt, if◌then◌else◌, Some, None, Option}
+use Rattle.std.specs.Option.{option_and_then}
 use Rattle.std.specs.Str.{all_ascii_digits}
 use Rattle.std.specs.Str.Parse.{digits_value}
 use Rattle.std.specs.Cmp.Lexicographic.{pointwise}
@@ -18,7 +19,13 @@ most_size Random = 32768
 abbrev pub is_number : List ℕ → Bool
 is_number word = (nat_lt 0 (length word) && nat_le (length word) 10) && all_ascii_digits word
 
--- the number that a word writes, where it is within its limits
+-- the number that a word writes
+abbrev pub number_of : List ℕ → Option ℕ
+number_of word = if is_number word then Some (digits_value 10 word) else None
+
+-- a number from the least to the most
+abbrev pub within : ℕ → ℕ → ℕ → Option ℕ
+within least most n = if nat_le least n && nat_le n most then Some n else None
+
 abbrev pub number_within : ℕ → ℕ → List ℕ → Option ℕ
-number_within least most word =
-    if is_number word && (nat_le least (digits_value 10 word) && nat_le (digits_value 10 word) most) then Some (digits_value 10 word) else None
+number_within least most word = option_and_then (within least most) (number_of word)

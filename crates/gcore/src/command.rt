@@ -1,5 +1,5 @@
-ghost use Rattle.std.specs.Prelude.{◌≡◌, map, string_bytes};
-ghost use Rattle.gcore.specs.CommandLines.{IsCommand, IsForm, IsSession, IsCheck};
+ghost use Rattle.std.specs.Prelude.{◌≡◌, ◌∷◌, map, string_bytes, IfOk};
+ghost use Rattle.gcore.specs.CommandLines.{HasGraphs, IsCommand, IsForm, IsSession, IsCheck};
 
 use crate::make::{MakeKind, make_of};
 use crate::pair::{PairList, graphs_of};
@@ -11,13 +11,24 @@ use std::alloc::Global;
 #[derive(Debug, Drop)]
 pub enum Command {
     /// Runs a query file on graph files, and writes the text of each answer.
-    Run { query: Str, graphs: PairList },
+    Run {
+        query: Str,
+        graphs: PairList,
+    },
     /// Runs the same, and writes one certificate document.
-    Cert { query: Str, graphs: PairList },
+    Cert {
+        query: Str,
+        graphs: PairList,
+    },
     /// Runs the same, and writes the plans.
-    Explain { query: Str, graphs: PairList },
+    Explain {
+        query: Str,
+        graphs: PairList,
+    },
     /// Checks a certificate document.
-    Check { document: Str },
+    Check {
+        document: Str,
+    },
     /// Makes a graph from numbers, and writes one line about the answer of a fixed query.
     Make {
         kind: MakeKind,
@@ -49,7 +60,8 @@ impl Command {
     /// The command of the words after the program's name, or `Usage` exactly where they have none
     /// of the forms.
     pub fn of(alloc: Global, words: &[String]) -> Result<Command, CommandRefusal>
-        ensures { IsCommand (map string_bytes words.now) result }
+        ensures command { IsCommand (map string_bytes words.now) result }
+        ensures graphs { IfOk result HasGraphs }
     {
         match words.split_first() {
             None => Err(CommandRefusal::Usage),

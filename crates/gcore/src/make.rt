@@ -1,5 +1,6 @@
 ghost use Rattle.std.specs.Prelude.{◌≡◌, map, string_bytes};
-ghost use Rattle.gcore.specs.MakeLines.{most_size, kind_of, number_within};
+ghost use Rattle.std.specs.Str.{all_ascii_digits};
+ghost use Rattle.gcore.specs.MakeLines.{most_size, kind_of, number_within, number_of, within, is_number};
 
 use crate::command::{Command, CommandRefusal};
 
@@ -71,15 +72,48 @@ fn make_of_kind(kind: &str, size: &str, start: &str) -> Result<Command, CommandR
 fn number_within(least: u32, most: u32, word: &str) -> Option<u32>
     ensures { result ≡ number_within least most word.now }
 {
-    if word.is_empty() || word.len() > 10 || !are_digits(word.as_bytes()) {
-        return None;
-    }
-    match word.parse::<u32>() {
-        Ok(number) if least <= number && number <= most => Some(number),
-        _ => None,
+    match number_of(word) {
+        Some(number) => within(least, most, number),
+        None => None,
     }
 }
 
-fn are_digits(bytes: &[u8]) -> bool {
-    bytes.iter().all(|byte| byte.is_ascii_digit())
+fn within(least: u32, most: u32, number: u64) -> Option<u32>
+    ensures { result ≡ within least most number }
+{
+    if u64::from(least) <= number && number <= u64::from(most) {
+        Some(number as u32)
+    } else {
+        None
+    }
+}
+
+// The number that one to ten decimal digits write.
+fn number_of(word: &str) -> Option<u64>
+    ensures { result ≡ number_of word.now }
+{
+    if !is_number(word) {
+        return None;
+    }
+    match word.parse::<u64>() {
+        Ok(number) => Some(number),
+        Err(_) => None,
+    }
+}
+
+fn is_number(word: &str) -> bool
+    ensures { result ≡ is_number word.now }
+{
+    !word.is_empty() && word.len() <= 10 && are_digits(word.as_bytes())
+}
+
+fn are_digits(bytes: &[u8]) -> bool
+    ensures { result ≡ all_ascii_digits bytes.now }
+{
+    for byte in bytes {
+        if !byte.is_ascii_digit() {
+            return false;
+        }
+    }
+    true
 }

@@ -53,16 +53,17 @@ pub fn graphs_of(alloc: Global, words: &[String]) -> Result<PairList, CommandRef
     ensures { AreGraphs (map string_bytes words.now) result }
 {
     let graphs = pairs_of(alloc, words)?;
-    if graphs.is_empty() || graphs.len() > MOST_GRAPHS || !names_differ(&graphs) {
+    let count = graphs.len();
+    if count == 0 || count > MOST_GRAPHS || !names_differ(graphs.as_slice()) {
         return Err(CommandRefusal::Usage);
     }
-    Ok(Sequence::from_vec(graphs))
+    Ok(graphs)
 }
 
-fn pairs_of(alloc: Global, words: &[String]) -> Result<Vec<Pair>, CommandRefusal>
+fn pairs_of(alloc: Global, words: &[String]) -> Result<PairList, CommandRefusal>
     ensures { ArePairs (map string_bytes words.now) result }
 {
-    let mut pairs = Vec::new(alloc);
+    let mut pairs = PairList::new(alloc);
     for word in words {
         pairs.push(Pair::of(alloc, word.as_str())?)?;
     }
