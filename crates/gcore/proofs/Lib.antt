@@ -1,1 +1,4 @@
 pub mod ThinLaws
+pub mod CommandLaws
+pub mod GraphsRead
+pub mod RunLaws

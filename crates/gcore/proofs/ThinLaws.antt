@@ -9,7 +9,7 @@ use Rattle.std.specs.Cmp.Lexicographic.{pointwise, nat_list_eq_equiv, bytes_deci
 use Rattle.std.proofs.Math.Seq.{drop-append-add, take-append_seam}
 use Rattle.std.proofs.Math.Bool.{or-true}
 use Rattle.gc_base.specs.Words.{is_word, is_word_part}
-use Rattle.gcore.specs.CommandLines.{is_name}
+use Rattle.gcore.specs.Pairs.{is_name}
 use Rattle.gcore.specs.ThinQueries.{thin_text, IsThinQuery, thin_label, label_by, label_at, variable_at, word_at, is_text}
 
 -- a letter is a part of a word

@@ -1,54 +1,65 @@
--- Command lines: the forms, by cases on whole lists of words.
-use Rattle.std.specs.Prelude.{◌≡◌, ℕ, ◌==◌, ◌&&◌, Bool, not, List, [], ◌∷◌, length, codes, nat_eq, nat_lt, if◌then◌else◌, Some, None, Option, Result, Ok, Err, ⊤}
-use Rattle.std.specs.Option.{option_map}
-use Rattle.std.specs.List.{before_first, after_first, position_or_len}
+-- Command lines: the five forms, by cases on whole lists of words.
+use Rattle.std.specs.Prelude.{◌≡◌, ℕ, Bool, true, List, [], ◌∷◌, codes, nat_eq, if◌then◌else◌, Some, None, Option, Result, Ok, Err, ⊤}
+use Rattle.std.specs.Option.{option_map, option_and_then}
 use Rattle.std.specs.Cmp.Lexicographic.{pointwise}
-use Rattle.gc_base.specs.Words.{is_word, is_reserved}
 use Rattle.gc_base.specs.PropertyLists.{is_nil}
+use Rattle.gcore.specs.Pairs.{named_file, pair_of, pairs_of, are_graphs, graphs_in}
+use Rattle.gcore.specs.MakeLines.{kind_of, most_size, number_within}
 use Rattle.gcore.specs.declared.command.Command.{Command}
-use Rattle.gcore.specs.declared.command.Command.TheVariants.{Run}
+use Rattle.gcore.specs.declared.command.Command.TheVariants.{Run, Cert, Explain, Check, Make}
 use Rattle.gcore.specs.declared.command.CommandRefusal.{CommandRefusal}
 use Rattle.gcore.specs.declared.command.CommandRefusal.TheVariants.{Usage, Memory}
-use Rattle.gcore.specs.declared.command.Pair.{Pair}
+use Rattle.gcore.specs.declared.command.Session.{Session}
+use Rattle.gcore.specs.declared.make.MakeKind.{MakeKind}
+use Rattle.gcore.specs.declared.pair.Pair.{Pair}
 
--- a name is a word that is not reserved
-abbrev pub is_name : List ℕ → Bool
-is_name word = is_word word && not (is_reserved word)
+-- `Q N=F ..`: the query file's word, which is not empty, and the graph files
+abbrev pub session_of : List (List ℕ) → Option Session
+session_of [] = None
+session_of (query ∷ words) = if is_nil query then None else option_map (λ graphs. record { query = query; graphs = graphs }) (graphs_in words)
 
--- the sign between a name and its file
-abbrev pub is_equals_sign : ℕ → Bool
-is_equals_sign c = c == 61
+-- `C`: the document's word, which is not empty
+abbrev pub check_of : List (List ℕ) → Option Command
+check_of (document ∷ []) = if is_nil document then None else Some (Check document)
+check_of words = None
 
--- a name, and the word of a file, which is not empty
-abbrev pub named_file : List ℕ → List ℕ → Option Pair
-named_file name file = if is_name name && not (is_nil file) then Some (record { name = name; file = file }) else None
+-- `KIND SIZE START`: the size is at least 1 and at most what the kind allows
+abbrev pub made : MakeKind → List ℕ → List ℕ → Option Command
+made kind size start = option_and_then (λ n. option_map (Make kind n) (number_within 0 2147483647 start)) (number_within 1 (most_size kind) size)
 
--- a pair word is split at its first equals sign
-abbrev pub pair_of : List ℕ → Option Pair
-pair_of word =
-    if nat_lt (position_or_len is_equals_sign word) (length word)
-    then named_file (before_first is_equals_sign word) (after_first is_equals_sign word)
-    else None
+abbrev pub make_of_words : List ℕ → List ℕ → List ℕ → Option Command
+make_of_words kind size start = option_and_then (λ k. made k size start) (kind_of kind)
 
--- `run Q N=F`: the query file's word is not empty
-abbrev pub run_of : List ℕ → List ℕ → Option Command
-run_of query pair = if is_nil query then None else option_map (λ p. Run query (p ∷ [])) (pair_of pair)
+abbrev pub make_of : List (List ℕ) → Option Command
+make_of (kind ∷ size ∷ start ∷ []) = make_of_words kind size start
+make_of words = None
+
+-- whether a word is the first of a form
+abbrev pub is_verb : List ℕ → List ℕ → Bool
+is_verb word verb = pointwise nat_eq word verb
+
+-- the command of a first word and the words behind it
+abbrev pub form_of : List ℕ → List (List ℕ) → Option Command
+form_of verb words =
+    if is_verb verb (codes "run") then option_map (λ s. Run s.query s.graphs) (session_of words)
+    else (if is_verb verb (codes "cert") then option_map (λ s. Cert s.query s.graphs) (session_of words)
+    else (if is_verb verb (codes "explain") then option_map (λ s. Explain s.query s.graphs) (session_of words)
+    else (if is_verb verb (codes "check") then check_of words
+    else (if is_verb verb (codes "make") then make_of words
+    else None))))
 
 -- the command of a list of words, or none
 abbrev pub command_of : List (List ℕ) → Option Command
-command_of (verb ∷ query ∷ pair ∷ []) = if pointwise nat_eq verb (codes "run") then run_of query pair else None
-command_of words = None
+command_of [] = None
+command_of (verb ∷ words) = form_of verb words
 
--- the query file and the graph files of a command
-abbrev pub query_of : Command → List ℕ
-query_of (Run query graphs) = query
-
-abbrev pub graphs_of : Command → List Pair
-graphs_of (Run query graphs) = graphs
-
--- a command has one graph file
-abbrev pub HasOneGraph : Command → Type 0
-HasOneGraph (Run query graphs) = length graphs ≡ 1
+-- a command has one to eight graph files, under names that differ, where it has any
+abbrev pub HasGraphs : Command → Type 0
+HasGraphs (Run query pairs) = are_graphs pairs ≡ true
+HasGraphs (Cert query pairs) = are_graphs pairs ≡ true
+HasGraphs (Explain query pairs) = are_graphs pairs ≡ true
+HasGraphs (Check document) = ⊤
+HasGraphs (Make kind size start) = ⊤
 
 -- what is due, or `Usage` exactly where nothing is; want of memory is free
 abbrev pub Answers : {X : Type 0} → Option X → Result X CommandRefusal → Type 0
@@ -59,11 +70,29 @@ Answers due (Err Memory) = ⊤
 abbrev pub IsCommand : List (List ℕ) → Result Command CommandRefusal → Type 0
 IsCommand words answer = Answers (command_of words) answer
 
-abbrev pub IsRun : List ℕ → List ℕ → Result Command CommandRefusal → Type 0
-IsRun query pair answer = Answers (run_of query pair) answer
+abbrev pub IsForm : List ℕ → List (List ℕ) → Result Command CommandRefusal → Type 0
+IsForm verb words answer = Answers (form_of verb words) answer
+
+abbrev pub IsSession : List (List ℕ) → Result Session CommandRefusal → Type 0
+IsSession words answer = Answers (session_of words) answer
+
+abbrev pub IsCheck : List (List ℕ) → Result Command CommandRefusal → Type 0
+IsCheck words answer = Answers (check_of words) answer
+
+abbrev pub IsMake : List (List ℕ) → Result Command CommandRefusal → Type 0
+IsMake words answer = Answers (make_of words) answer
+
+abbrev pub IsMakeOf : List ℕ → List ℕ → List ℕ → Result Command CommandRefusal → Type 0
+IsMakeOf kind size start answer = Answers (make_of_words kind size start) answer
+
+abbrev pub AreGraphs : List (List ℕ) → Result (List Pair) CommandRefusal → Type 0
+AreGraphs words answer = Answers (graphs_in words) answer
 
 abbrev pub IsPair : List ℕ → Result Pair CommandRefusal → Type 0
 IsPair word answer = Answers (pair_of word) answer
 
 abbrev pub IsNamedFile : List ℕ → List ℕ → Result Pair CommandRefusal → Type 0
 IsNamedFile name file answer = Answers (named_file name file) answer
+
+abbrev pub ArePairs : List (List ℕ) → Result (List Pair) CommandRefusal → Type 0
+ArePairs words answer = Answers (pairs_of words) answer

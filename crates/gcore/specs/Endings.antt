@@ -4,15 +4,16 @@ use Rattle.std.specs.Option.{ForSome}
 use Rattle.std.specs.Io.KnownBytes.{append_known}
 use Rattle.gc_base.specs.Faults.{Rose}
 use Rattle.gc_base.specs.Files.{Files}
+use Rattle.gcore.specs.GraphLines.{IsHeld}
 use Rattle.gcore.specs.Lines.{line_of, status_of}
-use Rattle.gcore.specs.Outcomes.{outcome, text_of, graph_due}
+use Rattle.gcore.specs.Outcomes.{outcome, text_of, graphs_due}
 use Rattle.gcore.specs.declared.command.Command.{Command}
-use Rattle.gcore.specs.declared.command.Command.TheVariants.{Run}
-use Rattle.gcore.specs.declared.command.Pair.{Pair}
+use Rattle.gcore.specs.declared.command.Command.TheVariants.{Run, Cert, Explain, Check, Make}
+use Rattle.gcore.specs.declared.pair.Pair.{Pair}
 use Rattle.gcore.specs.declared.status.Status.{Status}
 use Rattle.gcore.specs.declared.status.Status.TheVariants.{Done}
 use Rattle.gcore.specs.declared.stop.Stop.{Stop}
-use Rattle.gcore.specs.declared.stop.Stop.TheVariants.{Usage, Unread, TooLarge, NotBuilt, Unwritten, OutOfMemory}
+use Rattle.gcore.specs.declared.stop.Stop.TheVariants.{Usage, Unread, TooLarge, Refused, NotBuilt, Unwritten, OutOfMemory}
 
 -- a sink before and after a call: its count of faults, and what it took, where it tells that
 pub record Change : Type 0 where
@@ -68,15 +69,37 @@ IsDue call stop = IfSome call.files (λ files. outcome call.command files ≡ Er
 abbrev pub GainsDuePrefix : Call → Type 0
 GainsDuePrefix call = IfSome call.files (λ files. GainsPrefix call.out (text_of (outcome call.command files)))
 
--- a file's turn comes: the graph file's first, and the query file's once the graph file is accepted
+-- a graph file's turn comes once those before it are accepted
+abbrev pub IsTurnOfGraph : Option Files → List Pair → List ℕ → Type 0
+IsTurnOfGraph told pairs file =
+    (before : List Pair) × (pair : Pair) × (after : List Pair) × (pairs ≡ before ++ pair ∷ after) × (file ≡ pair.file) × IfSome told (λ files. IsOk (graphs_due files [] before))
+
+-- the query file's turn comes once all graph files are accepted
+abbrev pub IsTurnOfQuery : Option Files → List ℕ → List Pair → List ℕ → Type 0
+IsTurnOfQuery told query pairs file = (file ≡ query) × IfSome told (λ files. IsOk (graphs_due files [] pairs))
+
+-- the graph files of a command that reads them
+abbrev pub graphs_of : Command → List Pair
+graphs_of (Run query pairs) = pairs
+graphs_of (Cert query pairs) = []
+graphs_of (Explain query pairs) = []
+graphs_of (Check document) = []
+graphs_of (Make kind size start) = []
+
 abbrev pub IsTurnOf : Option Files → Command → List ℕ → Type 0
-IsTurnOf told (Run query []) file = ⊥
-IsTurnOf told (Run query (pair ∷ [])) file = (file ≡ pair.file) ⊎ ((file ≡ query) × IfSome told (λ files. IsOk (graph_due files pair.file)))
-IsTurnOf told (Run query (pair ∷ other ∷ pairs)) file = ⊥
+IsTurnOf told (Run query pairs) file = IsTurnOfGraph told pairs file ⊎ IsTurnOfQuery told query pairs file
+IsTurnOf told (Cert query pairs) file = ⊥
+IsTurnOf told (Explain query pairs) file = ⊥
+IsTurnOf told (Check document) file = ⊥
+IsTurnOf told (Make kind size start) file = ⊥
 
 -- the file is one of the command's, and its turn comes
 abbrev pub IsReached : Call → List ℕ → Type 0
 IsReached call file = IsSomeAnd call.command (λ command. IsTurnOf call.files command file)
+
+-- the file is one of the command's graph files, and its turn comes
+abbrev pub IsReachedGraph : Call → List ℕ → Type 0
+IsReachedGraph call file = IsSomeAnd call.command (λ command. IsTurnOfGraph call.files (graphs_of command) file)
 
 -- a file can't be read: where the files are told that is due, or the folder's count rose; else the count rose
 abbrev pub IsUnread : Call → List ℕ → Type 0
@@ -87,6 +110,7 @@ abbrev pub StopsFor : Call → Stop → Type 0
 StopsFor call Usage = (call.command ≡ None) × GainsNothing call.out
 StopsFor call (Unread file) = IsReached call file × IsUnread call file × GainsNothing call.out
 StopsFor call (TooLarge file) = IsReached call file × IsDue call (TooLarge file) × GainsNothing call.out
+StopsFor call (Refused refusal file) = IsReachedGraph call file × IsDue call (Refused refusal file) × GainsNothing call.out
 StopsFor call NotBuilt = IsSome call.command × IsDue call NotBuilt × GainsNothing call.out
 StopsFor call Unwritten = IsSome call.command × Failed call.out × GainsDuePrefix call
 StopsFor call OutOfMemory = GainsDuePrefix call
@@ -106,15 +130,25 @@ Ends call err status =
     ((status ≡ Done) × Finishes call × GainsNothing err)
     ⊎ ((stop : Stop) × (status ≡ status_of stop) × StopsFor call stop × Tells err (line_of stop))
 
--- the files that a command names: the query file and the graph files
+-- the graph files that a command reads
+abbrev pub graph_files : Option Command → List (List ℕ)
+graph_files None = []
+graph_files (Some command) = map (λ (p : Pair). p.file) (graphs_of command)
+
+-- the files that a command reads: the query file and the graph files
 abbrev pub named_files : Option Command → List (List ℕ)
 named_files None = []
-named_files (Some (Run query graphs)) = query ∷ map (λ (p : Pair). p.file) graphs
+named_files (Some (Run query pairs)) = query ∷ map (λ (p : Pair). p.file) pairs
+named_files (Some (Cert query pairs)) = []
+named_files (Some (Explain query pairs)) = []
+named_files (Some (Check document)) = []
+named_files (Some (Make kind size start)) = []
 
--- a stop about a file is about one that the command names
+-- a stop about a file is about one that the command reads
 abbrev pub MayStop : Option Command → Stop → Type 0
 MayStop command (Unread file) = Contains (named_files command) file
 MayStop command (TooLarge file) = Contains (named_files command) file
+MayStop command (Refused refusal file) = Contains (graph_files command) file × IsHeld refusal
 MayStop command stop = ⊤
 
 -- a told room of `out` holds the text that is due, for which the files have to be told

@@ -1,6 +1,10 @@
 pub mod CommandLines
 pub mod Endings
+pub mod GraphLines
+pub mod GraphSteps
 pub mod Lines
+pub mod MakeLines
 pub mod Outcomes
+pub mod Pairs
 pub mod Steps
 pub mod ThinQueries

@@ -1,28 +1,49 @@
 -- The lines on standard error, and what a stopped call stands for.
 use Rattle.std.specs.Prelude.{ℕ, List, [], ◌∷◌, ◌++◌, codes}
+use Rattle.std.specs.Fmt.{decimal}
+use Rattle.gc_json.specs.declared.refusal.GraphRefusal.{GraphRefusal}
+use Rattle.gc_json.specs.declared.refusal.Spot.{Spot}
+use Rattle.gcore.specs.GraphLines.{refusal_text, spot_text}
 use Rattle.gcore.specs.declared.status.Status.{Status}
 use Rattle.gcore.specs.declared.status.Status.TheVariants as status
 use Rattle.gcore.specs.declared.stop.Stop.{Stop}
-use Rattle.gcore.specs.declared.stop.Stop.TheVariants.{Usage, Unread, TooLarge, NotBuilt, Unwritten, OutOfMemory}
+use Rattle.gcore.specs.declared.stop.Stop.TheVariants.{Usage, Unread, TooLarge, Refused, NotBuilt, Unwritten, OutOfMemory}
 
 -- a line begins with the program's name and ends with a line feed
 abbrev pub line : List ℕ → List ℕ
 line message = codes "gcore: " ++ (message ++ 10 ∷ [])
+
+-- the line of a graph file that breaks a rule
+abbrev pub refusal_line : GraphRefusal → List ℕ → List ℕ
+refusal_line refusal file = line (refusal_text refusal ++ (codes " in " ++ file))
 
 -- the line of each stop
 abbrev pub line_of : Stop → List ℕ
 line_of Usage = line (codes "usage")
 line_of (Unread file) = line (codes "cannot read " ++ file)
 line_of (TooLarge file) = line (codes "too large " ++ file)
+line_of (Refused refusal file) = refusal_line refusal file
 line_of NotBuilt = line (codes "not built")
 line_of Unwritten = line (codes "cannot write")
 line_of OutOfMemory = line (codes "out of memory")
+
+-- the line of a rule that is broken at a spot, with what stands behind it
+abbrev pub spot_line : List ℕ → Spot → List ℕ → List ℕ → List ℕ → List ℕ
+spot_line rule spot gap id file = line (rule ++ (spot_text spot ++ (gap ++ (id ++ (codes " in " ++ file)))))
+
+-- the same at an item of a list, whose index is written in digits
+abbrev pub digits_line : List ℕ → List ℕ → List ℕ → List ℕ → List ℕ → List ℕ → List ℕ
+digits_line rule list index gap id file = line (rule ++ ((list ++ (index ++ codes "]")) ++ (gap ++ (id ++ (codes " in " ++ file)))))
+
+abbrev pub item_line : List ℕ → List ℕ → ℕ → List ℕ → List ℕ → List ℕ → List ℕ
+item_line rule list index gap id file = digits_line rule list (decimal index) gap id file
 
 -- the status of each stop
 abbrev pub status_of : Stop → Status
 status_of Usage = status.Usage
 status_of (Unread file) = status.Read
 status_of (TooLarge file) = status.Size
+status_of (Refused refusal file) = status.Graph
 status_of NotBuilt = status.NotBuilt
 status_of Unwritten = status.Write
 status_of OutOfMemory = status.Memory
@@ -31,6 +52,7 @@ status_of OutOfMemory = status.Memory
 abbrev pub code_of : Status → ℕ
 code_of status.Done = 0
 code_of status.Usage = 2
+code_of status.Graph = 5
 code_of status.Read = 6
 code_of status.Write = 7
 code_of status.Memory = 8

@@ -1,18 +1,21 @@
 -- The outcome of a call: the text due on standard output, or the stop that is due.
 use Rattle.std.specs.Prelude.{ℕ, List, [], ◌∷◌, ◌++◌, length, nat_lt, if◌then◌else◌, Some, None, Option, Result, Ok, Err}
 use Rattle.gc_base.specs.Files.{Files, file_of}
+use Rattle.gc_spec.specs.Coherence.{shapes_of}
 use Rattle.gc_spec.specs.PropertyGraph.{PropertyGraph}
 use Rattle.gc_ppg.specs.Labelled.{nodes_with_label}
 use Rattle.gc_json.specs.CanonicalText.{canonical_text}
-use Rattle.gc_json.specs.ThinFiles.{thin_graph}
+use Rattle.gc_json.specs.FileElements.{Seen}
+use Rattle.gc_json.specs.GraphFiles.{file_graph}
+use Rattle.gc_json.specs.declared.refusal.GraphRefusal.{GraphRefusal}
 use Rattle.gcore.specs.ThinQueries.{thin_label}
 use Rattle.gcore.specs.declared.command.Command.{Command}
-use Rattle.gcore.specs.declared.command.Command.TheVariants.{Run}
+use Rattle.gcore.specs.declared.command.Command.TheVariants.{Run, Cert, Explain, Check, Make}
 use Rattle.gcore.specs.declared.command.CommandRefusal.{CommandRefusal}
 use Rattle.gcore.specs.declared.command.CommandRefusal.TheVariants as refusal
-use Rattle.gcore.specs.declared.command.Pair.{Pair}
+use Rattle.gcore.specs.declared.pair.Pair.{Pair}
 use Rattle.gcore.specs.declared.stop.Stop.{Stop}
-use Rattle.gcore.specs.declared.stop.Stop.TheVariants.{Usage, Unread, TooLarge, NotBuilt, OutOfMemory}
+use Rattle.gcore.specs.declared.stop.Stop.TheVariants.{Usage, Unread, TooLarge, Refused, NotBuilt, OutOfMemory}
 
 -- how many bytes a graph file may have, and a query file
 abbrev pub graph_limit : ℕ
@@ -34,14 +37,25 @@ within_limit name limit (Some bytes) = if nat_lt limit (length bytes) then Err (
 abbrev pub file_due : Files → List ℕ → ℕ → Result (List ℕ) Stop
 file_due files name limit = within_limit name limit (file_of files name)
 
--- what is built: whatever is no thin file is not
+-- the graph of a file, or the rule that the file breaks
+abbrev pub accepted : List ℕ → Result PropertyGraph GraphRefusal → Result PropertyGraph Stop
+accepted name (Ok g) = Ok g
+accepted name (Err refusal) = Err (Refused refusal name)
+
+-- the graph of a graph file, beside what identities stand for in the graphs of the files before it
+abbrev pub graph_due : Files → Seen → List ℕ → Result PropertyGraph Stop
+graph_due files seen name = then_due (file_due files name graph_limit) (λ bytes. accepted name (file_graph seen bytes))
+
+-- the graphs of graph files, one after another
+abbrev pub graphs_due : Files → Seen → List Pair → Result (List PropertyGraph) Stop
+graphs_due files seen [] = Ok []
+graphs_due files seen (pair ∷ pairs) =
+    then_due (graph_due files seen pair.file) (λ g. then_due (graphs_due files (seen ++ shapes_of g ∷ []) pairs) (λ gs. Ok (g ∷ gs)))
+
+-- what is built: whatever is no thin query is not
 abbrev pub built : {A : Type 0} → Option A → Result A Stop
 built None = Err NotBuilt
 built (Some x) = Ok x
-
--- the graph of a graph file
-abbrev pub graph_due : Files → List ℕ → Result PropertyGraph Stop
-graph_due files name = then_due (file_due files name graph_limit) (λ bytes. built (thin_graph bytes))
 
 -- the label of a query file
 abbrev pub label_due : Files → List ℕ → Result (List ℕ) Stop
@@ -51,15 +65,22 @@ label_due files name = then_due (file_due files name query_limit) (λ bytes. bui
 unfoldable pub printed : PropertyGraph → List ℕ → List ℕ
 printed g label = canonical_text (nodes_with_label g label) ++ 10 ∷ []
 
--- first the graph file, then the query file, then the answer
-abbrev pub run_due : Files → List ℕ → Pair → Result (List ℕ) Stop
-run_due files query pair = then_due (graph_due files pair.file) (λ g. then_due (label_due files query) (λ label. Ok (printed g label)))
+-- the answer on the default graph, which is the first
+abbrev pub first_printed : List PropertyGraph → List ℕ → Result (List ℕ) Stop
+first_printed [] label = Err Usage
+first_printed (g ∷ gs) label = Ok (printed g label)
 
--- a command of one graph file; no other has words
+-- first the graph files, then the query file, then the answer
+abbrev pub run_due : Files → List ℕ → List Pair → Result (List ℕ) Stop
+run_due files query pairs = then_due (graphs_due files [] pairs) (λ gs. then_due (label_due files query) (first_printed gs))
+
+-- what a command gives; those that are not built yet stop directly
 abbrev pub command_due : Files → Command → Result (List ℕ) Stop
-command_due files (Run query []) = Err Usage
-command_due files (Run query (pair ∷ [])) = run_due files query pair
-command_due files (Run query (pair ∷ other ∷ pairs)) = Err Usage
+command_due files (Run query pairs) = run_due files query pairs
+command_due files (Cert query pairs) = Err NotBuilt
+command_due files (Explain query pairs) = Err NotBuilt
+command_due files (Check document) = Err NotBuilt
+command_due files (Make kind size start) = Err NotBuilt
 
 -- words that are no command are a usage fault
 abbrev pub form_due : Option Command → Result Command Stop

@@ -3,7 +3,7 @@ use Rattle.std.specs.Prelude.{◌≡◌, ℕ, List, Option, Some, None, Result, 
 use Rattle.gc_base.specs.Faults.{Rose}
 use Rattle.gc_base.specs.Files.{Files}
 use Rattle.gcore.specs.declared.stop.Stop.{Stop}
-use Rattle.gcore.specs.declared.stop.Stop.TheVariants.{Usage, Unread, TooLarge, NotBuilt, Unwritten, OutOfMemory}
+use Rattle.gcore.specs.declared.stop.Stop.TheVariants.{Usage, Unread, TooLarge, Refused, NotBuilt, Unwritten, OutOfMemory}
 
 -- a folder in a step: its files, where it tells them, and its count of faults before and after
 pub record Reading : Type 0 where
@@ -17,6 +17,7 @@ StopsReading reading name due Usage = ⊥
 StopsReading reading name due (Unread file) =
     (file ≡ name) × MatchOption reading.files (Rose reading.faults_before reading.faults_after) (λ files. (due files ≡ Err (Unread file)) ⊎ Rose reading.faults_before reading.faults_after)
 StopsReading reading name due (TooLarge file) = (file ≡ name) × IfSome reading.files (λ files. due files ≡ Err (TooLarge file))
+StopsReading reading name due (Refused refusal file) = ⊥
 StopsReading reading name due NotBuilt = IfSome reading.files (λ files. due files ≡ Err NotBuilt)
 StopsReading reading name due Unwritten = ⊥
 StopsReading reading name due OutOfMemory = ⊤
@@ -28,7 +29,21 @@ Builds due (Err NotBuilt) = due ≡ None
 Builds due (Err OutOfMemory) = ⊤
 Builds due (Err stop) = ⊥
 
+-- a graph that is due is given, or the rule that is broken is told
+abbrev pub Accepts : {A : Type 0} → Result A Stop → Result A Stop → Type 0
+Accepts due (Err OutOfMemory) = ⊤
+Accepts due answer = due ≡ answer
+
 -- a step that reads a file gives what is due, where the files are told, or stops
 abbrev pub Reads : {A : Type 0} → Reading → List ℕ → (Files → Result A Stop) → Result A Stop → Type 0
 Reads reading name due (Ok x) = IfSome reading.files (λ files. due files ≡ Ok x)
 Reads reading name due (Err stop) = StopsReading reading name due stop
+
+-- the same of a graph file, which may break a rule
+abbrev pub StopsReadingGraph : {A : Type 0} → Reading → List ℕ → (Files → Result A Stop) → Stop → Type 0
+StopsReadingGraph reading name due (Refused refusal file) = (file ≡ name) × IfSome reading.files (λ files. due files ≡ Err (Refused refusal file))
+StopsReadingGraph reading name due stop = StopsReading reading name due stop
+
+abbrev pub ReadsGraph : {A : Type 0} → Reading → List ℕ → (Files → Result A Stop) → Result A Stop → Type 0
+ReadsGraph reading name due (Ok x) = IfSome reading.files (λ files. due files ≡ Ok x)
+ReadsGraph reading name due (Err stop) = StopsReadingGraph reading name due stop

@@ -2,7 +2,7 @@
 use Rattle.std.specs.Prelude.{◌≡◌, ℕ, ◌+◌, ◌*◌, ◌&&◌, ◌||◌, Bool, true, List, [], ◌∷◌, ◌++◌, drop, length, codes, nat_eq, if◌then◌else◌, Some, None, Option, take_while, ◌⊎◌}
 use Rattle.std.specs.Cmp.Lexicographic.{pointwise}
 use Rattle.gc_base.specs.Words.{is_word, is_word_part}
-use Rattle.gcore.specs.CommandLines.{is_name}
+use Rattle.gcore.specs.Pairs.{is_name}
 
 -- the text of the query that takes the nodes of a label
 abbrev pub thin_text : List ℕ → List ℕ → List ℕ

@@ -1,12 +1,15 @@
-ghost use Rattle.std.specs.Prelude.{◌≡◌, ◌∷◌, [], Some, length, IfOk};
+ghost use Rattle.std.specs.Prelude.{◌≡◌, true, Some, length, IfOk};
 ghost use Rattle.gc_base.specs.Sinks.{HasRoom};
 ghost use Rattle.gcore.specs.Outcomes.{printed};
-ghost use Rattle.gcore.specs.CommandLines.{HasOneGraph};
+ghost use Rattle.gcore.specs.Pairs.{are_graphs};
+ghost use Rattle.gcore.specs.CommandLines.{HasGraphs};
 ghost use Rattle.gcore.specs.Endings.{Answers, Call, Change, HoldsText, WritesText};
 ghost use Rattle.gcore.specs.declared.command.Command.TheVariants.{Run};
 
-use crate::command::{Command, Pair};
-use crate::inputs::{read_graph, read_label};
+use crate::command::Command;
+use crate::graphs::read_graphs;
+use crate::inputs::read_label;
+use crate::pair::Pair;
 use crate::stop::Stop;
 use gc_base::{Bytes, Memory, Name, Steps, Str};
 use gc_io::{Folder, Sink, SinkFault, write_whole};
@@ -15,7 +18,8 @@ use gc_ppg::Graph;
 use std::alloc::Global;
 use std::sync::ledger::Ledger;
 
-/// Runs a command: its graph file is read first, then the query file, then the answer is written.
+/// Runs a command: its graph files are read first, then the query file, then the answer is written.
+/// A command that is not built yet stops directly.
 pub fn run<F: Folder, S: Sink, L: Ledger>(
     alloc: Global,
     command: &Command,
@@ -23,43 +27,60 @@ pub fn run<F: Folder, S: Sink, L: Ledger>(
     out: &mut S,
     steps: &mut Steps<L>,
 ) -> Result<(), Stop>
-    requires one { HasOneGraph command.now }
+    requires graphs { HasGraphs command.now }
     requires room { HoldsText (S.room out.old) (F.files folder.old) (Some command.now) }
     ensures outcome { Answers (record { command = Some command.now; files = F.files folder.old; faults_before = F.faults folder.old; faults_after = F.faults folder.new; out = record { faults_before = S.faults out.old; faults_after = S.faults out.new; taken_before = S.taken out.old; taken_after = S.taken out.new } }) result }
     ensures kept { F.files folder.new ≡ F.files folder.old }
 {
-    let query = command.query();
-    let pair = command.graphs().at(0);
-    run_on(alloc, query, pair, folder, out, steps)
+    match command {
+        Command::Run { query, graphs } => {
+            run_query(alloc, query, graphs.as_slice(), folder, out, steps)
+        }
+        Command::Cert {
+            query: _,
+            graphs: _,
+        } => Err(Stop::NotBuilt),
+        Command::Explain {
+            query: _,
+            graphs: _,
+        } => Err(Stop::NotBuilt),
+        Command::Check { document: _ } => Err(Stop::NotBuilt),
+        Command::Make {
+            kind: _,
+            size: _,
+            start: _,
+        } => Err(Stop::NotBuilt),
+    }
 }
 
-fn run_on<F: Folder, S: Sink, L: Ledger>(
+fn run_query<F: Folder, S: Sink, L: Ledger>(
     alloc: Global,
     query: &Str,
-    pair: &Pair,
+    pairs: &[Pair],
     folder: &mut F,
     out: &mut S,
     steps: &mut Steps<L>,
 ) -> Result<(), Stop>
-    requires { HoldsText (S.room out.old) (F.files folder.old) (Some (Run query.now (pair.now ∷ []))) }
-    ensures outcome { Answers (record { command = Some (Run query.now (pair.now ∷ [])); files = F.files folder.old; faults_before = F.faults folder.old; faults_after = F.faults folder.new; out = record { faults_before = S.faults out.old; faults_after = S.faults out.new; taken_before = S.taken out.old; taken_after = S.taken out.new } }) result }
+    requires graphs { are_graphs pairs.now ≡ true }
+    requires room { HoldsText (S.room out.old) (F.files folder.old) (Some (Run query.now pairs.now)) }
+    ensures outcome { Answers (record { command = Some (Run query.now pairs.now); files = F.files folder.old; faults_before = F.faults folder.old; faults_after = F.faults folder.new; out = record { faults_before = S.faults out.old; faults_after = S.faults out.new; taken_before = S.taken out.old; taken_after = S.taken out.new } }) result }
     ensures kept { F.files folder.new ≡ F.files folder.old }
 {
-    let graph = read_graph(alloc, folder, &pair.file)?;
+    let graphs = read_graphs(alloc, folder, pairs)?;
     let label = read_label(alloc, folder, query)?;
-    write_labelled(alloc, graph, &label, out, steps)
+    write_labelled(alloc, graphs.at(0), &label, out, steps)
 }
 
 // Writes the text of the nodes of a label.
 fn write_labelled<S: Sink, L: Ledger>(
     alloc: Global,
-    graph: Graph,
+    graph: &Graph,
     label: &Name,
     out: &mut S,
     steps: &mut Steps<L>,
 ) -> Result<(), Stop>
-    requires { HasRoom (S.room out.old) (length (printed graph label.now)) }
-    ensures { WritesText (record { faults_before = S.faults out.old; faults_after = S.faults out.new; taken_before = S.taken out.old; taken_after = S.taken out.new }) (printed graph label.now) result }
+    requires { HasRoom (S.room out.old) (length (printed graph.now label.now)) }
+    ensures { WritesText (record { faults_before = S.faults out.old; faults_after = S.faults out.new; taken_before = S.taken out.old; taken_after = S.taken out.new }) (printed graph.now label.now) result }
 {
     match print_labelled(alloc, graph, label, steps) {
         Ok(text) => write_text(out, text.as_slice()),
@@ -70,13 +91,13 @@ fn write_labelled<S: Sink, L: Ledger>(
 // The text of the nodes of a label, and a line feed.
 fn print_labelled<L: Ledger>(
     alloc: Global,
-    graph: Graph,
+    graph: &Graph,
     label: &Name,
     steps: &mut Steps<L>,
 ) -> Result<Bytes, Memory>
-    ensures { IfOk result (λ text. text ≡ printed graph label.now) }
+    ensures { IfOk result (λ text. text ≡ printed graph.now label.now) }
 {
-    let selected = graph.labelled(label);
+    let selected = graph.labelled(alloc, label)?;
     let mut text = print(alloc, &selected, steps)?;
     text.push(b'\n')?;
     Ok(text)

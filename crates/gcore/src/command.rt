@@ -1,23 +1,40 @@
-ghost use Rattle.std.specs.Prelude.{map, string_bytes, option_map, IfOk};
+ghost use Rattle.std.specs.Prelude.{◌≡◌, ◌∷◌, map, string_bytes, IfOk};
+ghost use Rattle.gcore.specs.CommandLines.{HasGraphs, IsCommand, IsForm, IsSession, IsCheck};
 
-use gc_base::{Memory, Name, Sequence, Str, is_reserved};
+use crate::make::{MakeKind, make_of};
+use crate::pair::{PairList, graphs_of};
+use gc_base::{Memory, Str};
 use std::alloc::Global;
 
-/// A name and the word of the graph file that it stands for.
-#[derive(Debug, Drop)]
-pub struct Pair {
-    pub name: Name,
-    pub file: Str,
-}
-
-/// Pairs, in the order of the words.
-pub type PairList = Sequence<Pair>;
-
-/// What a command line asks for.
+/// What a command line asks for. The graph files are one to eight, of which the first is the
+/// default graph.
 #[derive(Debug, Drop)]
 pub enum Command {
-    /// Runs a query file on graph files, of which the first is the default graph.
-    Run { query: Str, graphs: PairList },
+    /// Runs a query file on graph files, and writes the text of each answer.
+    Run {
+        query: Str,
+        graphs: PairList,
+    },
+    /// Runs the same, and writes one certificate document.
+    Cert {
+        query: Str,
+        graphs: PairList,
+    },
+    /// Runs the same, and writes the plans.
+    Explain {
+        query: Str,
+        graphs: PairList,
+    },
+    /// Checks a certificate document.
+    Check {
+        document: Str,
+    },
+    /// Makes a graph from numbers, and writes one line about the answer of a fixed query.
+    Make {
+        kind: MakeKind,
+        size: u32,
+        start: u32,
+    },
 }
 
 /// Why words are no command.
@@ -30,7 +47,6 @@ pub enum CommandRefusal {
 }
 
 impl From<Memory> for CommandRefusal {
-    ghost use Rattle.std.specs.Prelude.{◌≡◌};
     ghost use Rattle.gcore.specs.declared.command.CommandRefusal.TheVariants.{Memory as OutOfMemory};
 
     ghost from_gives = { λ _ refusal. refusal ≡ OutOfMemory };
@@ -41,86 +57,78 @@ impl From<Memory> for CommandRefusal {
 }
 
 impl Command {
-    ghost use Rattle.gcore.specs.CommandLines.{HasOneGraph, IsCommand};
-
     /// The command of the words after the program's name, or `Usage` exactly where they have none
     /// of the forms.
     pub fn of(alloc: Global, words: &[String]) -> Result<Command, CommandRefusal>
         ensures command { IsCommand (map string_bytes words.now) result }
-        ensures one { IfOk result HasOneGraph }
+        ensures graphs { IfOk result HasGraphs }
     {
-        if words.len() != 3 {
-            return Err(CommandRefusal::Usage);
-        }
-        if words[0].as_str() != "run" {
-            return Err(CommandRefusal::Usage);
-        }
-        Command::run_of(alloc, words[1].as_str(), words[2].as_str())
-    }
-
-    ghost use Rattle.std.specs.Prelude.{◌≡◌};
-    ghost use Rattle.gcore.specs.CommandLines.{query_of, graphs_of};
-
-    /// The word of the query file.
-    pub fn query(&self) -> &Str
-        ensures { result.now ≡ query_of self.now }
-    {
-        match self {
-            Command::Run { query, graphs: _ } => query,
+        match words.split_first() {
+            None => Err(CommandRefusal::Usage),
+            Some((verb, words)) => Command::of_form(alloc, verb.as_str(), words),
         }
     }
 
-    /// The graph files, in the order of the words.
-    pub fn graphs(&self) -> &PairList
-        ensures { result.now ≡ graphs_of self.now }
+    // The command of a first word and the words behind it.
+    fn of_form(alloc: Global, verb: &str, words: &[String]) -> Result<Command, CommandRefusal>
+        ensures { IsForm verb.now (map string_bytes words.now) result }
     {
-        match self {
-            Command::Run { query: _, graphs } => graphs,
+        if verb == "run" {
+            let Session { query, graphs } = Session::of(alloc, words)?;
+            Ok(Command::Run { query, graphs })
+        } else if verb == "cert" {
+            let Session { query, graphs } = Session::of(alloc, words)?;
+            Ok(Command::Cert { query, graphs })
+        } else if verb == "explain" {
+            let Session { query, graphs } = Session::of(alloc, words)?;
+            Ok(Command::Explain { query, graphs })
+        } else if verb == "check" {
+            check_of(alloc, words)
+        } else if verb == "make" {
+            make_of(words)
+        } else {
+            Err(CommandRefusal::Usage)
+        }
+    }
+}
+
+// A query file and graph files.
+#[derive(Debug, Drop)]
+struct Session {
+    query: Str,
+    graphs: PairList,
+}
+
+impl Session {
+    // `Q N=F ..`.
+    fn of(alloc: Global, words: &[String]) -> Result<Session, CommandRefusal>
+        ensures { IsSession (map string_bytes words.now) result }
+    {
+        match words.split_first() {
+            None => Err(CommandRefusal::Usage),
+            Some((query, words)) => Session::of_query(alloc, query.as_str(), words),
         }
     }
 
-    ghost use Rattle.gcore.specs.CommandLines.{IsRun};
-
-    // `run Q N=F`.
-    fn run_of(alloc: Global, query: &str, pair: &str) -> Result<Command, CommandRefusal>
-        ensures run { IsRun query.now pair.now result }
-        ensures one { IfOk result HasOneGraph }
+    fn of_query(alloc: Global, query: &str, words: &[String]) -> Result<Session, CommandRefusal>
+        ensures { IsSession (query.now ∷ map string_bytes words.now) result }
     {
         if query.is_empty() {
             return Err(CommandRefusal::Usage);
         }
-        let pair = Pair::of(alloc, pair)?;
+        let graphs = graphs_of(alloc, words)?;
         let query = Str::of(alloc, query)?;
-        let mut graphs = PairList::new(alloc);
-        graphs.push(pair)?;
-        Ok(Command::Run { query, graphs })
+        Ok(Session { query, graphs })
     }
 }
 
-impl Pair {
-    ghost use Rattle.gcore.specs.CommandLines.{IsPair, IsNamedFile};
-
-    /// The pair of a word, which is split at its first `=`.
-    fn of(alloc: Global, word: &str) -> Result<Pair, CommandRefusal>
-        ensures { IsPair word.now result }
-    {
-        match word.split_once('=') {
-            None => Err(CommandRefusal::Usage),
-            Some((name, file)) => Pair::named(alloc, name, file),
-        }
+// `check C`.
+fn check_of(alloc: Global, words: &[String]) -> Result<Command, CommandRefusal>
+    ensures { IsCheck (map string_bytes words.now) result }
+{
+    if words.len() != 1 || words[0].as_str().is_empty() {
+        return Err(CommandRefusal::Usage);
     }
-
-    // The pair of a name and a file's word.
-    fn named(alloc: Global, name: &str, file: &str) -> Result<Pair, CommandRefusal>
-        ensures { IsNamedFile name.now file.now result }
-    {
-        let Some(name) = Name::of(alloc, name.as_bytes())? else {
-            return Err(CommandRefusal::Usage);
-        };
-        if is_reserved(&name) || file.is_empty() {
-            return Err(CommandRefusal::Usage);
-        }
-        let file = Str::of(alloc, file)?;
-        Ok(Pair { name, file })
-    }
+    let document = Str::of(alloc, words[0].as_str())?;
+    Ok(Command::Check { document })
 }

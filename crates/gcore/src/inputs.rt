@@ -1,14 +1,15 @@
 ghost use Rattle.std.specs.Prelude.{◌≡◌, ◌≤◌};
-ghost use Rattle.gcore.specs.Outcomes.{file_due, graph_due, label_due};
-ghost use Rattle.gcore.specs.Steps.{Builds, Reads, Reading};
+ghost use Rattle.gc_json.specs.GraphFiles.{file_graph};
+ghost use Rattle.gcore.specs.Outcomes.{accepted, file_due, graph_due, label_due};
+ghost use Rattle.gcore.specs.Steps.{Accepts, Builds, Reads, ReadsGraph, Reading};
 ghost use Rattle.gcore.specs.ThinQueries.{thin_label};
 
 use crate::stop::Stop;
 use crate::thin::thin_query_label;
 use gc_base::{Bytes, Duplicate, Name, Str};
 use gc_io::{Folder, ReadRefusal, read_whole};
-use gc_json::{ThinRefusal, load_thin};
-use gc_ppg::Graph;
+use gc_json::{GraphRefusal, load};
+use gc_ppg::{Coherence, Graph};
 use std::alloc::Global;
 
 /// How many bytes a graph file may have.
@@ -17,17 +18,29 @@ const GRAPH_LIMIT: u64 = 33_554_432;
 /// How many bytes a query file may have.
 const QUERY_LIMIT: u64 = 1_048_576;
 
-/// The graph of a graph file.
-pub fn read_graph<F: Folder>(alloc: Global, folder: &mut F, name: &Str) -> Result<Graph, Stop>
-    ensures outcome { Reads (record { files = F.files folder.old; faults_before = F.faults folder.old; faults_after = F.faults folder.new }) name.now (λ files. graph_due files name.now) result }
+/// The graph of a graph file, beside what identities stand for in the graphs of the files before it.
+pub fn read_graph<F: Folder>(
+    alloc: Global,
+    folder: &mut F,
+    name: &Str,
+    seen: &Coherence,
+) -> Result<Graph, Stop>
+    ensures outcome { ReadsGraph (record { files = F.files folder.old; faults_before = F.faults folder.old; faults_after = F.faults folder.new }) name.now (λ files. graph_due files seen.now name.now) result }
     ensures later { F.faults folder.old ≤ F.faults folder.new }
     ensures kept { F.files folder.new ≡ F.files folder.old }
 {
     let bytes = read_file(alloc, folder, name, GRAPH_LIMIT)?;
-    match load_thin(alloc, bytes.as_slice()) {
+    load_named(alloc, bytes.as_slice(), name, seen)
+}
+
+// The graph of the bytes of a graph file.
+fn load_named(alloc: Global, bytes: &[u8], name: &Str, seen: &Coherence) -> Result<Graph, Stop>
+    ensures { Accepts (accepted name.now (file_graph seen.now bytes.now)) result }
+{
+    match load(alloc, bytes, seen) {
         Ok(graph) => Ok(graph),
-        Err(ThinRefusal::NotThin) => Err(Stop::NotBuilt),
-        Err(ThinRefusal::Memory) => Err(Stop::OutOfMemory),
+        Err(GraphRefusal::Memory) => Err(Stop::OutOfMemory),
+        Err(refusal) => Err(Stop::Refused(refusal, name.copy()?)),
     }
 }
 

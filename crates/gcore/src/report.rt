@@ -1,11 +1,13 @@
-ghost use Rattle.std.specs.Prelude.{◌≡◌, ◌++◌, length};
+ghost use Rattle.std.specs.Prelude.{◌≡◌, ◌++◌, codes, length};
 ghost use Rattle.gc_base.specs.Sinks.{HasRoom};
 ghost use Rattle.gc_io.specs.Pieces.{joined};
-ghost use Rattle.gcore.specs.Lines.{line, line_of};
+ghost use Rattle.gcore.specs.Lines.{line, line_of, refusal_line, spot_line, item_line, digits_line};
 ghost use Rattle.gcore.specs.Endings.{Change, Tells};
 
 use crate::stop::Stop;
 use gc_io::{Sink, write_pieces};
+use gc_json::{GraphRefusal, Part, Spot};
+use itoa::Buffer;
 
 /// Tells a sink the line of a stop. It takes no memory, and a failure of the sink changes nothing else.
 pub fn tell<T: Sink>(stop: &Stop, err: &mut T)
@@ -16,6 +18,7 @@ pub fn tell<T: Sink>(stop: &Stop, err: &mut T)
         Stop::Usage => tell_line(err, b"usage", b""),
         Stop::Unread(file) => tell_line(err, b"cannot read ", file.text().as_bytes()),
         Stop::TooLarge(file) => tell_line(err, b"too large ", file.text().as_bytes()),
+        Stop::Refused(refusal, file) => tell_refusal(err, refusal, file.text().as_bytes()),
         Stop::NotBuilt => tell_line(err, b"not built", b""),
         Stop::Unwritten => tell_line(err, b"cannot write", b""),
         Stop::OutOfMemory => tell_line(err, b"out of memory", b""),
@@ -28,6 +31,102 @@ fn tell_line<T: Sink>(err: &mut T, message: &[u8], file: &[u8])
     ensures { Tells (record { faults_before = T.faults err.old; faults_after = T.faults err.new; taken_before = T.taken err.old; taken_after = T.taken err.new }) (line (message.now ++ file.now)) }
 {
     tell_pieces(err, &[b"gcore: ", message, file, b"\n"]);
+}
+
+// The line of a graph file that breaks a rule.
+fn tell_refusal<T: Sink>(err: &mut T, refusal: &GraphRefusal, file: &[u8])
+    requires { HasRoom (T.room err.old) (length (refusal_line refusal.now file.now)) }
+    ensures { Tells (record { faults_before = T.faults err.old; faults_after = T.faults err.new; taken_before = T.taken err.old; taken_after = T.taken err.new }) (refusal_line refusal.now file.now) }
+{
+    match refusal {
+        GraphRefusal::NotJson => tell_file(err, b"G1 NotJson", file),
+        GraphRefusal::WrongShape(spot) => tell_spot(err, b"G2 WrongShape", *spot, b"", b"", file),
+        GraphRefusal::IdTooLarge(spot) => tell_spot(err, b"G3 IdTooLarge", *spot, b"", b"", file),
+        GraphRefusal::IdTwice(spot) => tell_spot(err, b"G4 IdTwice", *spot, b"", b"", file),
+        GraphRefusal::NoEnd(spot) => tell_spot(err, b"G5 NoEnd", *spot, b"", b"", file),
+        GraphRefusal::BadWalk(spot) => tell_spot(err, b"G6 BadWalk", *spot, b"", b"", file),
+        GraphRefusal::BadLabel(spot) => tell_spot(err, b"G7 BadLabel", *spot, b"", b"", file),
+        GraphRefusal::BadName(spot) => tell_spot(err, b"G8 BadName", *spot, b"", b"", file),
+        GraphRefusal::NotLiteral(spot) => tell_spot(err, b"G9 NotLiteral", *spot, b"", b"", file),
+        GraphRefusal::Incoherent(spot, id) => {
+            let mut digits = Buffer::new();
+            let id = digits.format(id.get()).as_bytes();
+            tell_spot(err, b"G10 Incoherent", *spot, b" ", id, file);
+        }
+        GraphRefusal::TooMany => tell_file(err, b"G11 TooMany", file),
+        GraphRefusal::Memory => tell_file(err, b"out of memory", file),
+    }
+}
+
+// The line of a rule that the file breaks as a whole.
+fn tell_file<T: Sink>(err: &mut T, rule: &[u8], file: &[u8])
+    requires { HasRoom (T.room err.old) (length (line (rule.now ++ (codes " in " ++ file.now)))) }
+    ensures { Tells (record { faults_before = T.faults err.old; faults_after = T.faults err.new; taken_before = T.taken err.old; taken_after = T.taken err.new }) (line (rule.now ++ (codes " in " ++ file.now))) }
+{
+    tell_pieces(err, &[b"gcore: ", rule, b" in ", file, b"\n"]);
+}
+
+// The line of a rule that is broken at a spot, with a gap and an identity, which may be empty.
+fn tell_spot<T: Sink>(err: &mut T, rule: &[u8], spot: Spot, gap: &[u8], id: &[u8], file: &[u8])
+    requires { HasRoom (T.room err.old) (length (spot_line rule.now spot gap.now id.now file.now)) }
+    ensures { Tells (record { faults_before = T.faults err.old; faults_after = T.faults err.new; taken_before = T.taken err.old; taken_after = T.taken err.new }) (spot_line rule.now spot gap.now id.now file.now) }
+{
+    match spot.part {
+        Part::Whole => {
+            tell_pieces(
+                err,
+                &[b"gcore: ", rule, b" file", gap, id, b" in ", file, b"\n"],
+            );
+        }
+        Part::Nodes => tell_item(err, rule, b" nodes[", spot.index, gap, id, file),
+        Part::Edges => tell_item(err, rule, b" edges[", spot.index, gap, id, file),
+        Part::Paths => tell_item(err, rule, b" paths[", spot.index, gap, id, file),
+    }
+}
+
+// The line of a rule that is broken at an item of a list.
+fn tell_item<T: Sink>(
+    err: &mut T,
+    rule: &[u8],
+    list: &[u8],
+    index: usize,
+    gap: &[u8],
+    id: &[u8],
+    file: &[u8],
+)
+    requires { HasRoom (T.room err.old) (length (item_line rule.now list.now index gap.now id.now file.now)) }
+    ensures { Tells (record { faults_before = T.faults err.old; faults_after = T.faults err.new; taken_before = T.taken err.old; taken_after = T.taken err.new }) (item_line rule.now list.now index gap.now id.now file.now) }
+{
+    let mut digits = Buffer::new();
+    tell_digits(
+        err,
+        rule,
+        list,
+        digits.format(index).as_bytes(),
+        gap,
+        id,
+        file,
+    );
+}
+
+fn tell_digits<T: Sink>(
+    err: &mut T,
+    rule: &[u8],
+    list: &[u8],
+    index: &[u8],
+    gap: &[u8],
+    id: &[u8],
+    file: &[u8],
+)
+    requires { HasRoom (T.room err.old) (length (digits_line rule.now list.now index.now gap.now id.now file.now)) }
+    ensures { Tells (record { faults_before = T.faults err.old; faults_after = T.faults err.new; taken_before = T.taken err.old; taken_after = T.taken err.new }) (digits_line rule.now list.now index.now gap.now id.now file.now) }
+{
+    tell_pieces(
+        err,
+        &[
+            b"gcore: ", rule, list, index, b"]", gap, id, b" in ", file, b"\n",
+        ],
+    );
 }
 
 fn tell_pieces<T: Sink>(err: &mut T, pieces: &[&[u8]])

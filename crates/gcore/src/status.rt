@@ -8,6 +8,8 @@ pub enum Status {
     Done = 0,
     /// The words have none of the forms.
     Usage = 2,
+    /// A graph file breaks a rule.
+    Graph = 5,
     /// A named file can't be read.
     Read = 6,
     /// The output failed.

@@ -1,10 +1,12 @@
 ghost use Rattle.std.specs.Prelude.{◌≡◌};
+ghost use Rattle.gcore.specs.GraphLines.{IsHeld, IsHeldSpot};
 ghost use Rattle.gcore.specs.Lines.{line_of, status_of};
 
 use crate::command::CommandRefusal;
 use crate::status::Status;
 use gc_base::{Memory, Str};
 use gc_io::SinkFault;
+use gc_json::{GraphRefusal, Spot};
 
 /// Why a call ends without being done, with the word of the file that it is about.
 #[derive(Debug, Drop)]
@@ -15,6 +17,8 @@ pub enum Stop {
     Unread(Str),
     /// A file is larger than its limit.
     TooLarge(Str),
+    /// A graph file breaks a rule.
+    Refused(GraphRefusal, Str),
     /// What is asked for is not built yet.
     NotBuilt,
     /// The output failed.
@@ -32,11 +36,56 @@ impl Stop {
             Stop::Usage => Status::Usage,
             Stop::Unread(_) => Status::Read,
             Stop::TooLarge(_) => Status::Size,
+            Stop::Refused(_, _) => Status::Graph,
             Stop::NotBuilt => Status::NotBuilt,
             Stop::Unwritten => Status::Write,
             Stop::OutOfMemory => Status::Memory,
         }
     }
+}
+
+impl Stop {
+    ghost use Rattle.gcore.specs.GraphSteps.{IsHeldStop};
+
+    /// That it is as the machine holds it, for a proof.
+    pub fn known(&self)
+        ensures { IsHeldStop self.now }
+    {
+        match self {
+            Stop::Refused(refusal, _) => known_refusal(refusal),
+            _ => {}
+        }
+    }
+}
+
+// That a refusal is as the machine holds it, for a proof.
+fn known_refusal(refusal: &GraphRefusal)
+    ensures { IsHeld refusal.now }
+{
+    match refusal {
+        GraphRefusal::NotJson => {}
+        GraphRefusal::WrongShape(spot) => known_spot(*spot),
+        GraphRefusal::IdTooLarge(spot) => known_spot(*spot),
+        GraphRefusal::IdTwice(spot) => known_spot(*spot),
+        GraphRefusal::NoEnd(spot) => known_spot(*spot),
+        GraphRefusal::BadWalk(spot) => known_spot(*spot),
+        GraphRefusal::BadLabel(spot) => known_spot(*spot),
+        GraphRefusal::BadName(spot) => known_spot(*spot),
+        GraphRefusal::NotLiteral(spot) => known_spot(*spot),
+        GraphRefusal::Incoherent(spot, id) => {
+            known_spot(*spot);
+            let _number = id.get();
+        }
+        GraphRefusal::TooMany => {}
+        GraphRefusal::Memory => {}
+    }
+}
+
+// That a spot is as the machine holds it, for a proof.
+fn known_spot(spot: Spot)
+    ensures { IsHeldSpot spot }
+{
+    let _index = spot.index;
 }
 
 impl From<Memory> for Stop {

@@ -42,6 +42,7 @@ pub fn gcore<F: Folder, S: Sink, T: Sink, L: Ledger>(
     match answer(alloc, words, folder, out, steps) {
         Ok(()) => Status::Done,
         Err(stop) => {
+            stop.known();
             tell(&stop, err);
             stop.status()
         }

@@ -5,4 +5,4 @@ use Rattle.gcore.proofs.answer.print_labelled.Goals as goal
 
 pub returns : goal.returns
 unfolding printed
-returns g c = c.in_ok-push.ensures.ok ∙ ap (λ text. text ++ 10 ∷ []) (c.in_ok-text.ensures.text ∙ ap canonical_text c.labelled-selected.ensures)
+returns g c = c.in_ok-push.ensures.ok ∙ ap (λ text. text ++ 10 ∷ []) (c.in_ok-text.ensures.text ∙ ap canonical_text c.in_ok-selected.ensures)

@@ -4,7 +4,7 @@ use Rattle.gcore.specs.Outcomes.{then_due, built, file_due, label_due, query_lim
 use Rattle.gcore.specs.Steps.{Builds, Reads}
 use Rattle.gcore.specs.ThinQueries.{thin_label}
 use Rattle.gcore.specs.declared.stop.Stop.{Stop}
-use Rattle.gcore.specs.declared.stop.Stop.TheVariants.{Usage, Unread, TooLarge, NotBuilt, Unwritten, OutOfMemory}
+use Rattle.gcore.specs.declared.stop.Stop.TheVariants.{Usage, Unread, TooLarge, Refused, NotBuilt, Unwritten, OutOfMemory}
 use Rattle.gcore.proofs.inputs.read_label.Goals as goal
 
 -- a file that was read, and the label that is built of it
@@ -21,6 +21,7 @@ read_built told before after name bytes (Err OutOfMemory) f h = tt
 read_built told before after name bytes (Err Usage) f h = absurd h
 read_built told before after name bytes (Err (Unread file)) f h = absurd h
 read_built told before after name bytes (Err (TooLarge file)) f h = absurd h
+read_built told before after name bytes (Err (Refused refusal file)) f h = absurd h
 read_built told before after name bytes (Err Unwritten) f h = absurd h
 
 pub returns-clause-outcome : goal.returns-clause-outcome

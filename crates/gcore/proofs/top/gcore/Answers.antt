@@ -1,28 +1,53 @@
-use Rattle.std.proofs.Common.{ℕ, List, [], ◌∷◌, Some, None, Option, sym, arith, inl, inr}
+use Rattle.std.proofs.Common.{◌≡◌, ◌+◌, ℕ, suc, List, [], ◌∷◌, ◌++◌, map, Some, None, Option, refl, sym, subst, arith, inl, inr}
 use Rattle.std.specs.Prelude.{IsSomeAnd, Contains}
 use Rattle.gc_base.specs.Files.{Files}
-use Rattle.gcore.specs.Endings.{Call, IsTurnOf, MayStop, StopsFor, named_files}
+use Rattle.gcore.specs.Endings.{Call, IsTurnOf, IsTurnOfGraph, MayStop, StopsFor, graphs_of, graph_files, named_files}
+use Rattle.gcore.specs.GraphSteps.{IsHeldStop}
 use Rattle.gcore.specs.declared.command.Command.{Command}
-use Rattle.gcore.specs.declared.command.Command.TheVariants.{Run}
+use Rattle.gcore.specs.declared.command.Command.TheVariants.{Run, Cert, Explain, Check, Make}
+use Rattle.gcore.specs.declared.pair.Pair.{Pair}
 use Rattle.gcore.specs.declared.stop.Stop.{Stop}
-use Rattle.gcore.specs.declared.stop.Stop.TheVariants.{Usage, Unread, TooLarge, NotBuilt, Unwritten, OutOfMemory}
+use Rattle.gcore.specs.declared.stop.Stop.TheVariants.{Usage, Unread, TooLarge, Refused, NotBuilt, Unwritten, OutOfMemory}
 use Rattle.gcore.proofs.top.gcore.Goals as goal
 
--- a file whose turn came is one that the command names
+abbrev files_of : List Pair → List (List ℕ)
+files_of pairs = map (λ (p : Pair). p.file) pairs
+
+has_file : (before : List Pair) (p : Pair) (after : List Pair) → Contains (files_of (before ++ p ∷ after)) p.file
+has_file [] p after = (0, omega arith, refl)
+has_file (q ∷ before) p after = let rest = has_file before p after in (suc rest.0, omega (arith, rest.1), rest.2)
+
+-- a graph file whose turn came is one of the graph files
+is_graph_file : (told : Option Files) (pairs : List Pair) (file : List ℕ) → IsTurnOfGraph told pairs file → Contains (files_of pairs) file
+is_graph_file told pairs file h =
+    let there = has_file h.0 h.1 h.2 in
+    subst (λ ps. Contains (files_of ps) file) (sym h.3) (subst (Contains (files_of (h.0 ++ h.1 ∷ h.2))) (sym h.4) there)
+
+one_more : (xs : List (List ℕ)) (x y : List ℕ) → Contains xs x → Contains (y ∷ xs) x
+one_more xs x y h = (suc h.0, omega (arith, h.1), h.2)
+
+-- a file whose turn came is one that the command reads
 is_named : (command : Option Command) (told : Option Files) (file : List ℕ) → IsSomeAnd command (λ c. IsTurnOf told c file) → Contains (named_files command) file
 is_named None told file h = absurd h
-is_named (Some (Run query [])) told file h = absurd h
-is_named (Some (Run query (pair ∷ []))) told file (inl e) = (1, omega arith, sym e)
-is_named (Some (Run query (pair ∷ []))) told file (inr e) = (0, omega arith, sym e.0)
-is_named (Some (Run query (pair ∷ other ∷ pairs))) told file h = absurd h
+is_named (Some (Run query pairs)) told file (inl turn) = one_more (files_of pairs) file query (is_graph_file told pairs file turn)
+is_named (Some (Run query pairs)) told file (inr turn) = (0, omega arith, sym turn.0)
+is_named (Some (Cert query pairs)) told file h = absurd h
+is_named (Some (Explain query pairs)) told file h = absurd h
+is_named (Some (Check document)) told file h = absurd h
+is_named (Some (Make kind size start)) told file h = absurd h
 
-may_stop : (call : Call) (stop : Stop) → StopsFor call stop → MayStop call.command stop
-may_stop call Usage h = tt
-may_stop call (Unread file) h = is_named call.command call.files file h.0
-may_stop call (TooLarge file) h = is_named call.command call.files file h.0
-may_stop call NotBuilt h = tt
-may_stop call Unwritten h = tt
-may_stop call OutOfMemory h = tt
+is_named_graph : (command : Option Command) (told : Option Files) (file : List ℕ) → IsSomeAnd command (λ c. IsTurnOfGraph told (graphs_of c) file) → Contains (graph_files command) file
+is_named_graph None told file h = absurd h
+is_named_graph (Some command) told file h = is_graph_file told (graphs_of command) file h
+
+may_stop : (call : Call) (stop : Stop) → IsHeldStop stop → StopsFor call stop → MayStop call.command stop
+may_stop call Usage held h = tt
+may_stop call (Unread file) held h = is_named call.command call.files file h.0
+may_stop call (TooLarge file) held h = is_named call.command call.files file h.0
+may_stop call (Refused refusal file) held h = (is_named_graph call.command call.files file h.0, held)
+may_stop call NotBuilt held h = tt
+may_stop call Unwritten held h = tt
+may_stop call OutOfMemory held h = tt
 
 pub tell-requires : goal.tell-requires
-tell-requires g c = λ x room. c.requires.err_room x room c.in-Err.stop (may_stop _ c.in-Err.stop c.in-Err.ensures.outcome)
+tell-requires g c = λ x room. c.requires.err_room x room c.in-Err.stop (may_stop _ c.in-Err.stop c.known.ensures c.in-Err.ensures.outcome)

@@ -1,0 +1,38 @@
+-- What reading the graph files answers.
+use Rattle.std.specs.Prelude.{◌≡◌, List, [], length, Result, Ok, Err, IfSome, MatchOption, ⊤, ◌⊎◌}
+use Rattle.gc_base.specs.Faults.{Rose}
+use Rattle.gc_base.specs.Files.{Files}
+use Rattle.gc_spec.specs.PropertyGraph.{PropertyGraph}
+use Rattle.gcore.specs.Endings.{IsTurnOfGraph}
+use Rattle.gcore.specs.GraphLines.{IsHeld}
+use Rattle.gcore.specs.Outcomes.{graphs_due}
+use Rattle.gcore.specs.Steps.{Reading}
+use Rattle.gcore.specs.declared.pair.Pair.{Pair}
+use Rattle.gcore.specs.declared.stop.Stop.{Stop}
+use Rattle.gcore.specs.declared.stop.Stop.TheVariants.{Usage, Unread, TooLarge, Refused, NotBuilt, Unwritten, OutOfMemory}
+
+-- where the files are told, this stop is due
+abbrev pub IsDueFor : Reading → List Pair → Stop → Type 0
+IsDueFor reading pairs stop = IfSome reading.files (λ files. graphs_due files [] pairs ≡ Err stop)
+
+-- a stop at a graph file: its turn came, and the stop is due, or the folder's count rose; or it is want of memory
+abbrev pub StopsReadingGraphs : Reading → List Pair → Stop → Type 0
+StopsReadingGraphs reading pairs Usage = ⊥
+StopsReadingGraphs reading pairs (Unread file) =
+    IsTurnOfGraph reading.files pairs file
+    × MatchOption reading.files (Rose reading.faults_before reading.faults_after) (λ files. (graphs_due files [] pairs ≡ Err (Unread file)) ⊎ Rose reading.faults_before reading.faults_after)
+StopsReadingGraphs reading pairs (TooLarge file) = IsTurnOfGraph reading.files pairs file × IsDueFor reading pairs (TooLarge file)
+StopsReadingGraphs reading pairs (Refused refusal file) = IsTurnOfGraph reading.files pairs file × IsDueFor reading pairs (Refused refusal file)
+StopsReadingGraphs reading pairs NotBuilt = IsDueFor reading pairs NotBuilt
+StopsReadingGraphs reading pairs Unwritten = ⊥
+StopsReadingGraphs reading pairs OutOfMemory = ⊤
+
+-- the graphs that are due, one for each file, or a stop
+abbrev pub ReadsGraphs : Reading → List Pair → Result (List PropertyGraph) Stop → Type 0
+ReadsGraphs reading pairs (Ok graphs) = (length graphs ≡ length pairs) × IfSome reading.files (λ files. graphs_due files [] pairs ≡ Ok graphs)
+ReadsGraphs reading pairs (Err stop) = StopsReadingGraphs reading pairs stop
+
+-- a stop as the machine holds it
+abbrev pub IsHeldStop : Stop → Type 0
+IsHeldStop (Refused refusal file) = IsHeld refusal
+IsHeldStop stop = ⊤
