@@ -1,7 +1,9 @@
 mod Keys
 pub mod GraphsReadBack
+mod ManyItems
 pub mod ReadsBack
 mod Rest
+mod SortedSets
 mod Turns
 mod WalkTurns
 mod WordTexts

@@ -3,6 +3,7 @@
 //! This crate knows of no query and opens no file.
 #![tactic(auto)]
 
+mod collected;
 mod edges;
 mod elements;
 mod fault;
