@@ -52,12 +52,19 @@ module _ {X : Type 0} (cmp : X → X → Ordering) where
   in_middle x [] n more h = h.0
   in_middle x (y ∷ xs) n more h = in_middle x xs n more h.1
 
-  before : (xs : List X) (n : X) (more : List X) → IsStrictlySortedBy cmp (xs ++ n ∷ more) → AllByRecursion (λ y. cmp y n ≡ Less) xs
-  unfolding IsStrictlySortedBy
+  before : (xs : List X) (n : X) (more : List X) → Ascends cmp (xs ++ n ∷ more) → AllByRecursion (λ y. cmp y n ≡ Less) xs
   before [] n more h = tt
   before (x ∷ xs) n more h = (in_middle x xs n more h.0, before xs n more h.1)
 
   -- the next item of an ascending list goes to the end of those before it
-  pub with_item-next : (xs : List X) (n : X) (more : List X) → IsStrictlySortedBy cmp (xs ++ n ∷ more) → with_item cmp xs n ≡ xs ++ n ∷ []
-  with_item-next xs n more up =
+  pub with_item-last : (xs : List X) (n : X) (more : List X) → Ascends cmp (xs ++ n ∷ more) → with_item cmp xs n ≡ xs ++ n ∷ []
+  with_item-last xs n more up =
       let below = before xs n more up in λ i. less_kept xs n below i ++ n ∷ less_not_greater xs n below i
+
+  strictly_ascends : (xs : List X) → IsStrictlySortedBy cmp xs → Ascends cmp xs
+  unfolding IsStrictlySortedBy
+  strictly_ascends [] h = tt
+  strictly_ascends (x ∷ xs) h = (h.0, strictly_ascends xs h.1)
+
+  pub with_item-next : (xs : List X) (n : X) (more : List X) → IsStrictlySortedBy cmp (xs ++ n ∷ more) → with_item cmp xs n ≡ xs ++ n ∷ []
+  with_item-next xs n more up = with_item-last xs n more (strictly_ascends (xs ++ n ∷ more) up)

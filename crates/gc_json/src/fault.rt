@@ -7,7 +7,7 @@ use gc_base::{Id, Memory};
 use std::alloc::AllocFailed;
 
 /// The rule that an element of a graph file breaks.
-#[derive(Debug, Drop)]
+#[derive(Clone, Copy, Debug)]
 pub(crate) enum Fault {
     /// A key is missing or unknown, or a value is of another kind.
     WrongShape,

@@ -23,7 +23,7 @@ mod thin;
 mod values;
 mod walks;
 
-pub use laws::canonical_texts_read_back;
+pub use laws::{canonical_texts_load_back, canonical_texts_read_back};
 pub use loading::load;
 pub use refusal::{GraphRefusal, Part, Spot};
 pub use text::print;
