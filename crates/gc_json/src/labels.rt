@@ -25,12 +25,12 @@ pub(crate) fn labels_in(alloc: Global, items: &[Value]) -> Result<LabelSet, Fail
 fn many_labels(alloc: Global, items: &[Value]) -> Result<LabelSet, Failure<Fault>>
     ensures { Gives (λ labels. labels) (labels_with [] (items_view items.now)) result }
 {
-    let mut labels = BTreeSet::new(alloc);
+    let mut tree = BTreeSet::new(alloc);
     for item in items {
         let label = label_of(alloc, item)?;
-        labels.insert(label)?;
+        tree.insert(label)?;
     }
-    Ok(set_of(alloc, labels)?)
+    Ok(set_of(alloc, tree)?)
 }
 
 // The labels of a short list.

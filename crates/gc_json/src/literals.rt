@@ -46,12 +46,12 @@ fn values_in(alloc: Global, items: &[Value]) -> Result<ValueSet, Failure<Fault>>
 fn many_values(alloc: Global, items: &[Value]) -> Result<ValueSet, Failure<Fault>>
     ensures { Gives (λ values. values) (values_with [] (items_view items.now)) result }
 {
-    let mut values = BTreeSet::new(alloc);
+    let mut tree = BTreeSet::new(alloc);
     for item in items {
         let literal = literal_of(alloc, item)?;
-        values.insert(literal)?;
+        tree.insert(literal)?;
     }
-    Ok(set_of(alloc, values)?)
+    Ok(set_of(alloc, tree)?)
 }
 
 // The literals of a short array.

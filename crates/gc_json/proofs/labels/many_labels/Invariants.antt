@@ -7,4 +7,4 @@ use Rattle.gc_json.proofs.labels.many_labels.Given as goal
 
 -- the labels so far with the rest are the labels of all
 abbrev pub invariant-loop-item : goal.invariant-loop-item
-invariant-loop-item l = Ascends text_order l.labels.keys × (labels_with l.labels.keys (items_view (drop l.item-index l.items)) ≡ labels_with [] (items_view l.items))
+invariant-loop-item l = Ascends text_order l.tree.keys × (labels_with l.tree.keys (items_view (drop l.item-index l.items)) ≡ labels_with [] (items_view l.items))

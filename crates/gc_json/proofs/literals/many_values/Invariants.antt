@@ -7,4 +7,4 @@ use Rattle.gc_json.proofs.literals.many_values.Given as goal
 
 -- the values so far with the rest are the values of all
 abbrev pub invariant-loop-item : goal.invariant-loop-item
-invariant-loop-item l = Ascends literal_order l.values.keys × (values_with l.values.keys (items_view (drop l.item-index l.items)) ≡ values_with [] (items_view l.items))
+invariant-loop-item l = Ascends literal_order l.tree.keys × (values_with l.tree.keys (items_view (drop l.item-index l.items)) ≡ values_with [] (items_view l.items))
