@@ -87,25 +87,25 @@ choose false c h left right = right h
 same_id : (a b : ℕ) → (a == b) ≡ true → IsId a → IsId b
 same_id a b h bound = grind (arith, nat_tests)
 
-node_bound : (nodes : List Node) (id : ℕ) → AllByRecursion IsNode nodes → is_among (node_ids nodes) id ≡ true → IsId id
+pub node_bound : (nodes : List Node) (id : ℕ) → AllByRecursion IsNode nodes → is_among (node_ids nodes) id ≡ true → IsId id
 node_bound [] id each h = cc
 node_bound (n ∷ nodes) id each h =
     choose (n.id == id) _ h (λ same. same_id n.id id same each.0.id) (λ later. node_bound nodes id each.1 later)
 
 -- the identities of an edge and its ends
-record Bounded (e : Edge) : Type 0 where
-  id : IsId e.id
-  from : IsId e.from
-  to : IsId e.to
+pub record Bounded (e : Edge) : Type 0 where
+  pub id : IsId e.id
+  pub from : IsId e.from
+  pub to : IsId e.to
 
-edges_bounded : (nodes : List Node) → AllByRecursion IsNode nodes → (edges : List Edge) → AllByRecursion (IsEdge nodes) edges → AllByRecursion Bounded edges
+pub edges_bounded : (nodes : List Node) → AllByRecursion IsNode nodes → (edges : List Edge) → AllByRecursion (IsEdge nodes) edges → AllByRecursion Bounded edges
 edges_bounded nodes are [] each = tt
 edges_bounded nodes are (e ∷ edges) each = (
   record { id = each.0.id; from = node_bound nodes e.from are each.0.source; to = node_bound nodes e.to are each.0.target },
   edges_bounded nodes are edges each.1,
 )
 
-joined_bound : (edges : List Edge) (id a b : ℕ) → AllByRecursion Bounded edges → is_joined edges id a b ≡ true → IsId id × IsId b
+pub joined_bound : (edges : List Edge) (id a b : ℕ) → AllByRecursion Bounded edges → is_joined edges id a b ≡ true → IsId id × IsId b
 joined_bound [] id a b each h = cc
 joined_bound (e ∷ edges) id a b each h =
     choose ((e.id == id) && ((e.from == a && e.to == b) || (e.from == b && e.to == a))) _ h
@@ -149,7 +149,7 @@ path_exact nodes edges are bounded p h =
       (labels, (refl, (refl, tt)), (properties_exact p.properties h.properties.ascend h.properties.each, (refl, tt), (items, tt, tt))),
     )
 
-graph_exact : (g : PropertyGraph) → IsGraph g → IsExact (graph_data g)
+pub graph_exact : (g : PropertyGraph) → IsGraph g → IsExact (graph_data g)
 graph_exact g h =
     let nodes = items_exact node_data IsNode node_exact g.nodes h.nodes in
     let edges = items_exact edge_data (IsEdge g.nodes) (edge_exact g.nodes h.nodes) g.edges h.edges in

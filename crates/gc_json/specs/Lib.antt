@@ -6,6 +6,7 @@ pub mod JsonValues
 pub mod LabelLists
 pub mod ListsSeen
 pub mod LiteralValues
+pub mod LoadedAgain
 pub mod Located
 pub mod PartsSeen
 pub mod PropertyMembers

@@ -4,9 +4,10 @@ ghost use Rattle.gc_json.specs.Located.{failure_at};
 
 use crate::refusal::{GraphRefusal, Spot};
 use gc_base::{Id, Memory};
+use std::alloc::AllocFailed;
 
 /// The rule that an element of a graph file breaks.
-#[derive(Debug, Drop)]
+#[derive(Clone, Copy, Debug)]
 pub(crate) enum Fault {
     /// A key is missing or unknown, or a value is of another kind.
     WrongShape,
@@ -43,6 +44,16 @@ impl<F> From<Memory> for Failure<F> {
     ghost from_gives = { λ _ made. made ≡ failure.Memory };
 
     fn from(_want: Memory) -> Failure<F> {
+        Failure::Memory
+    }
+}
+
+impl<F, T: Drop> From<AllocFailed<T>> for Failure<F> {
+    ghost use Rattle.gc_json.specs.declared.fault.Failure.TheVariants as failure;
+
+    ghost from_gives = { λ _ made. made ≡ failure.Memory };
+
+    fn from(_failed: AllocFailed<T>) -> Failure<F> {
         Failure::Memory
     }
 }

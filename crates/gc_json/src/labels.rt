@@ -3,13 +3,38 @@ ghost use Rattle.gc_json.specs.LabelLists.{label_of, labels_with};
 ghost use Rattle.gc_json.specs.Reading.{Gives};
 ghost use Rattle.serde_json.specs.View.{view, items_view};
 
+use crate::collected::{FEW, set_of};
 use crate::fault::{Failure, Fault};
 use gc_base::{LabelSet, Name};
 use serde_json::Value;
 use std::alloc::Global;
+use std::collections::BTreeSet;
 
 // The labels of a list.
 pub(crate) fn labels_in(alloc: Global, items: &[Value]) -> Result<LabelSet, Failure<Fault>>
+    ensures { Gives (λ labels. labels) (labels_with [] (items_view items.now)) result }
+{
+    if items.len() > FEW {
+        many_labels(alloc, items)
+    } else {
+        few_labels(alloc, items)
+    }
+}
+
+// The labels of a long list, which go through a tree.
+fn many_labels(alloc: Global, items: &[Value]) -> Result<LabelSet, Failure<Fault>>
+    ensures { Gives (λ labels. labels) (labels_with [] (items_view items.now)) result }
+{
+    let mut tree = BTreeSet::new(alloc);
+    for item in items {
+        let label = label_of(alloc, item)?;
+        tree.insert(label)?;
+    }
+    Ok(set_of(alloc, tree)?)
+}
+
+// The labels of a short list.
+fn few_labels(alloc: Global, items: &[Value]) -> Result<LabelSet, Failure<Fault>>
     ensures { Gives (λ labels. labels) (labels_with [] (items_view items.now)) result }
 {
     let mut labels = LabelSet::empty(alloc);

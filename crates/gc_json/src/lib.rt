@@ -1,14 +1,17 @@
 //! Graph files: a graph from JSON, and the canonical text of a graph. Others rely on this:
-//! `load_thin` gives exactly the graph of a thin file, and `print` exactly the canonical text.
-//! This crate knows of no query and opens no file.
+//! `load` gives exactly the graph of a file or the file's first refusal, and `print` exactly the
+//! canonical text, which loads as the graph again. This crate knows of no query and opens no file.
 #![tactic(auto)]
 
+mod collected;
 mod edges;
 mod elements;
 mod fault;
 mod labels;
 mod laws;
 mod literals;
+#[cfg(test)]
+mod load_tests;
 mod loading;
 mod nodes;
 mod parts;
@@ -22,7 +25,7 @@ mod thin;
 mod values;
 mod walks;
 
-pub use laws::canonical_texts_read_back;
+pub use laws::{canonical_texts_load_back, canonical_texts_read_back};
 pub use loading::load;
 pub use refusal::{GraphRefusal, Part, Spot};
 pub use text::print;

@@ -5,10 +5,12 @@ ghost use Rattle.gc_json.specs.declared.fault.Fault.TheVariants as fault;
 ghost use Rattle.serde_json.specs.Data.{no_items, item};
 ghost use Rattle.serde_json.specs.View.{view, items_view};
 
+use crate::collected::{FEW, set_of};
 use crate::fault::{Failure, Fault};
 use gc_base::{Literal, Str, ValueSet};
 use serde_json::Value;
 use std::alloc::Global;
+use std::collections::BTreeSet;
 
 // The values of a property: those of an array, or one literal.
 pub(crate) fn values_of(alloc: Global, value: &Value) -> Result<ValueSet, Failure<Fault>>
@@ -31,6 +33,29 @@ fn one_value(alloc: Global, value: &Value) -> Result<ValueSet, Failure<Fault>>
 
 // The literals of an array.
 fn values_in(alloc: Global, items: &[Value]) -> Result<ValueSet, Failure<Fault>>
+    ensures { Gives (λ values. values) (values_with [] (items_view items.now)) result }
+{
+    if items.len() > FEW {
+        many_values(alloc, items)
+    } else {
+        few_values(alloc, items)
+    }
+}
+
+// The literals of a long array, which go through a tree.
+fn many_values(alloc: Global, items: &[Value]) -> Result<ValueSet, Failure<Fault>>
+    ensures { Gives (λ values. values) (values_with [] (items_view items.now)) result }
+{
+    let mut tree = BTreeSet::new(alloc);
+    for item in items {
+        let literal = literal_of(alloc, item)?;
+        tree.insert(literal)?;
+    }
+    Ok(set_of(alloc, tree)?)
+}
+
+// The literals of a short array.
+fn few_values(alloc: Global, items: &[Value]) -> Result<ValueSet, Failure<Fault>>
     ensures { Gives (λ values. values) (values_with [] (items_view items.now)) result }
 {
     let mut values = ValueSet::empty(alloc);

@@ -118,6 +118,7 @@ fn is_file_object(value: &Value) -> bool
         && number_at(value, "gcore") == Some(1)
 }
 
+// The lists of an object; without its key a list is empty.
 fn lists_at<'v>(value: &'v Value) -> Result<Lists<'v>, Failure<Fault>>
     ensures { Gives lists_seen (lists_at (view value.now)) result }
 {

@@ -23,7 +23,7 @@ pub struct Spot {
 }
 
 /// Why a graph file gave no graph.
-#[derive(Debug, Drop, PartialEq, Eq, Error)]
+#[derive(Clone, Copy, Debug, PartialEq, Eq, Error)]
 pub enum GraphRefusal {
     /// G1: the file is no JSON value.
     #[error("no JSON")]

@@ -1,7 +1,7 @@
 use Rattle.std.proofs.Common.{◌≡◌, [], drop}
 use Rattle.serde_json.specs.View.{items_view}
 use Rattle.gc_json.specs.LabelLists.{labels_with}
-use Rattle.gc_json.proofs.labels.labels_in.Given as goal
+use Rattle.gc_json.proofs.labels.few_labels.Given as goal
 
 -- the labels so far with the rest are the labels of all
 abbrev pub invariant-loop-item : goal.invariant-loop-item

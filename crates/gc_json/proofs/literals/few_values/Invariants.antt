@@ -1,7 +1,7 @@
 use Rattle.std.proofs.Common.{◌≡◌, [], drop}
 use Rattle.serde_json.specs.View.{items_view}
 use Rattle.gc_json.specs.LiteralValues.{values_with}
-use Rattle.gc_json.proofs.literals.values_in.Given as goal
+use Rattle.gc_json.proofs.literals.few_values.Given as goal
 
 -- the values so far with the rest are the values of all
 abbrev pub invariant-loop-item : goal.invariant-loop-item
