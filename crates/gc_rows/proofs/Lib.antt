@@ -1,7 +1,9 @@
 pub mod AlgebraLaws
+pub mod JoinLaws
 pub mod KeyLaws
 pub mod LinkLaws
 pub mod Lookup
 pub mod Members
 pub mod RowLaws
 pub mod TableLaws
+pub mod UnionLaws
