@@ -5,5 +5,6 @@ pub mod LinkLaws
 pub mod Lookup
 pub mod Members
 pub mod RowLaws
+pub mod SameTable
 pub mod TableLaws
 pub mod UnionLaws
