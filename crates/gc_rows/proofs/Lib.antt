@@ -1,7 +1,10 @@
 pub mod AlgebraLaws
+pub mod JoinLaws
 pub mod KeyLaws
 pub mod LinkLaws
 pub mod Lookup
 pub mod Members
 pub mod RowLaws
+pub mod SameTable
 pub mod TableLaws
+pub mod UnionLaws

@@ -6,6 +6,7 @@
 mod datum;
 mod joins;
 mod keys;
+mod laws;
 mod pair;
 mod partners;
 mod projection;
@@ -17,6 +18,12 @@ mod tests;
 
 pub use datum::Datum;
 pub use joins::{join, outer};
+pub use laws::{
+    a_binding_binds_one_variable, a_join_has_the_unions, a_table_is_told_by_its_rows,
+    a_union_has_the_first_then_the_second, an_outer_join_is_join_and_antijoin,
+    compatible_rows_have_one_union, joins_associate, joins_commute,
+    semijoin_and_antijoin_split_a_table,
+};
 pub use projection::project;
 pub use row::{Binding, Row, RowList, SymList, row_cmp};
 pub use semijoins::{antijoin, semijoin};

@@ -57,6 +57,27 @@ impl Row {
         }
     }
 
+    /// The row that binds nothing, with room for some bindings.
+    pub fn with_room(alloc: Global, bindings: usize) -> Result<Row, Memory>
+        ensures { IfOk result (λ row. row ≡ []) }
+    {
+        Ok(Row {
+            bindings: Vec::with_capacity(alloc, bindings)?,
+        })
+    }
+
+    /// A copy with room for some more bindings.
+    pub(crate) fn copy_with_room(&self, more: usize) -> Result<Row, Memory>
+        ensures { IfOk result (λ row. row ≡ self.now) }
+    {
+        let room = self.bindings.len().saturating_add(more);
+        let mut bindings = Vec::with_capacity(*self.bindings.allocator(), room)?;
+        for binding in self.bindings() {
+            bindings.push(binding.copy()?)?;
+        }
+        Ok(Row { bindings })
+    }
+
     /// What a variable stands for, or `None` exactly where it is unbound.
     pub fn get(&self, var: Sym) -> Option<&Datum>
         ensures { option_copied result ≡ datum_at self.now var }
@@ -122,11 +143,7 @@ impl Duplicate for Binding {
 
 impl Duplicate for Row {
     fn copy(&self) -> Result<Row, Memory> {
-        let mut bindings = Vec::with_capacity(*self.bindings.allocator(), self.bindings.len())?;
-        for binding in self.bindings() {
-            bindings.push(binding.copy()?)?;
-        }
-        Ok(Row { bindings })
+        self.copy_with_room(0)
     }
 }
 

@@ -98,6 +98,13 @@ fn join_with_one_loose_row(rt: HostRuntime) -> Result<(), Fail> {
     Ok(())
 }
 
+#[test]
+fn room_for_bindings_binds_nothing(rt: HostRuntime) -> Result<(), Fail> {
+    let row = Row::with_room(rt.alloc(), 2)?;
+    assert!(rt; row.bindings().is_empty());
+    Ok(())
+}
+
 fn walk(alloc: Global, edges: &[u64]) -> Result<Datum, Fail> {
     let mut steps = StepList::new(alloc);
     for edge in edges {

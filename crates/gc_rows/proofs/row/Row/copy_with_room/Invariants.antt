@@ -1,5 +1,5 @@
 use Rattle.std.proofs.Common.{◌≡◌, take}
-use Rattle.gc_rows.proofs.row.RowDuplicate.copy.Given as goal
+use Rattle.gc_rows.proofs.row.Row.copy_with_room.Given as goal
 
 -- the copies so far are the bindings so far
 abbrev pub invariant-loop-binding : goal.invariant-loop-binding
