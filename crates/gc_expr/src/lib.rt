@@ -4,6 +4,7 @@
 #![tactic(auto)]
 
 mod build;
+mod copy;
 mod expr;
 
 pub use expr::{
