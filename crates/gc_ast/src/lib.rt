@@ -6,6 +6,7 @@ mod build_construct;
 mod build_query;
 mod construct;
 mod file;
+mod names;
 mod pattern;
 mod query;
 
@@ -14,6 +15,7 @@ pub use construct::{
     GroupTermList, Item, ItemList, NewElement,
 };
 pub use file::{File, PlaceList};
+pub use names::NameTable;
 pub use pattern::{
     Chain, ChainList, CountAt, Element, Located, LocatedList, NameAtList, PathBody, Pattern,
     PatternList, PropertyUse, PropertyUseList,
