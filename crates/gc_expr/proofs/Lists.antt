@@ -1,5 +1,5 @@
 -- The trees of expressions that hold lists or an operand.
-use Rattle.std.proofs.Common.{◌≡◌, ℕ, List, Some, map, ap, ◌∙◌, rules, Vec, Box, Global}
+use Rattle.std.proofs.Common.{◌≡◌, ℕ, Some, map, ap, ◌∙◌, rules, Vec, Box, Global}
 use Rattle.gc_expr.specs.declared.expr.Expr.{Expr}
 use Rattle.gc_expr.specs.declared.expr.SumPart.{SumPart}
 use Rattle.gc_expr.specs.declared.expr.ProductPart.{ProductPart}

@@ -1,6 +1,6 @@
 -- Other names in rows.
 use Rattle.std.proofs.Common.{◌≡◌, refl, ap, List, [], ◌∷◌, map}
-use Rattle.gc_expr.specs.Trees.{Kind, TreeOf, RowOf, row, more, renamed}
+use Rattle.gc_expr.specs.Trees.{Kind, TreeOf, row, more, renamed}
 
 -- a row with other names is the row of the trees with other names
 pub renamed_row : {A N M : Type 0} {k : Kind} (f : N → M) (g : A → TreeOf N k) (xs : List A) → renamed f (row (map g xs)) ≡ row (map (λ x. renamed f (g x)) xs)
