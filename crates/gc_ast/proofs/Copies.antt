@@ -1,5 +1,5 @@
 -- Copies of what may lack a part.
-use Rattle.std.proofs.Common.{◌≡◌, List, map, Option, Some, None, ap, sym, ◌∙◌, rules, Vec, Global}
+use Rattle.std.proofs.Common.{◌≡◌, List, map, Option, sym, ◌∙◌, rules, Vec, Global}
 use Rattle.std.specs.Option.{option_map}
 use Rattle.gc_base.specs.declared.place.NameAt.{NameAt}
 use Rattle.gc_ast.specs.declared.construct.Change.{the_lemmas}

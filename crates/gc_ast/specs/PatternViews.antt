@@ -1,6 +1,6 @@
 -- What patterns are as plain trees: by what stands for a name, by the name table that their names
 -- are numbers of, and by those numbers.
-use Rattle.std.specs.Prelude.{ℕ, List, map, Option}
+use Rattle.std.specs.Prelude.{List, map, Option}
 use Rattle.std.specs.Option.{option_map}
 use Rattle.gc_base.specs.declared.place.NameAt.{NameAt}
 use Rattle.gc_base.specs.declared.place.Sym.{Sym}

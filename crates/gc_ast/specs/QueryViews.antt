@@ -1,6 +1,6 @@
 -- What queries are as plain trees: by what stands for a name, by the name table that their names are
 -- numbers of, and by those numbers.
-use Rattle.std.specs.Prelude.{ℕ, List, map}
+use Rattle.std.specs.Prelude.{List, map}
 use Rattle.gc_base.specs.declared.place.Sym.{Sym}
 use Rattle.gc_expr.specs.Trees.{renamed}
 use Rattle.gc_expr.specs.Views.{Names, name_of, numbered_expr}

@@ -1,5 +1,5 @@
 -- Query files as plain trees.
-use Rattle.std.specs.Prelude.{ℕ, ℤ, List, [], ◌∷◌, Option, Some, None}
+use Rattle.std.specs.Prelude.{ℕ, List, [], ◌∷◌, Option, Some, None}
 use Rattle.gc_base.specs.declared.place.Direction.{Direction}
 use Rattle.gc_regx.specs.Trees.{RegexTree, ARegex}
 use Rattle.gc_expr.specs.Trees.{AnExpr}

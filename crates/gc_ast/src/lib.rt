@@ -11,6 +11,8 @@ mod file;
 mod names;
 mod pattern;
 mod query;
+#[cfg(test)]
+mod tests;
 
 pub use construct::{
     Assign, AssignList, Change, ChangeList, ConstructPart, ConstructPartList, GroupTerm,

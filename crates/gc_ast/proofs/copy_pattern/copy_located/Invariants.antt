@@ -1,5 +1,5 @@
 use Rattle.std.proofs.Common.{◌≡◌, take, map}
-use Rattle.gc_ast.specs.PatternViews.{numbered_pattern, numbered_located}
+use Rattle.gc_ast.specs.PatternViews.{numbered_located}
 use Rattle.gc_ast.proofs.copy_pattern.copy_located.Given as goal
 
 abbrev pub invariant-loop-chain : goal.invariant-loop-chain

@@ -1,4 +1,4 @@
-use Rattle.std.proofs.Common.{◌≡◌, map, Some, None, ap, sym, ◌∙◌}
+use Rattle.std.proofs.Common.{map, Some, None, ap, sym, ◌∙◌}
 use Rattle.std.specs.Option.{option_map}
 use Rattle.gc_ast.specs.PatternViews.{numbered_pattern}
 use Rattle.gc_ast.specs.QueryViews.{numbered_head, numbered_item, numbered_formula}

@@ -1,5 +1,4 @@
-use Rattle.std.proofs.Common.{◌≡◌, refl, sym, ap, ◌∙◌, ◌++◌, ◌∷◌, [], if◌then◌else◌}
-use Rattle.gc_ast.specs.Names.{with_name}
+use Rattle.std.proofs.Common.{sym, ap, ◌++◌, ◌∷◌, [], if◌then◌else◌}
 use Rattle.gc_ast.proofs.NameLemmas.{name_of_number}
 use Rattle.gc_ast.proofs.names.NameTable.intern.Goals as goal
 
