@@ -1,3 +1,4 @@
 pub mod PatternViews
 pub mod QueryViews
+pub mod Names
 pub mod Trees

@@ -13,7 +13,7 @@ use crate::construct::{
 use crate::query::Formula;
 use gc_base::{Direction, Name, NameAt, NameList};
 
-#[tactic(auto, unfolding(crate::specs::QueryViews::item_tree, crate::specs::QueryViews::part_tree, crate::specs::QueryViews::change_tree, crate::specs::QueryViews::formula_tree))]
+#[tactic(auto, unfolding(crate::specs::QueryViews::item_by, crate::specs::QueryViews::part_by, crate::specs::QueryViews::change_by, crate::specs::QueryViews::formula_by))]
 impl Item {
     /// All of a named graph.
     pub fn graph(name: NameAt) -> Item
@@ -34,7 +34,7 @@ impl Item {
     }
 }
 
-#[tactic(auto, unfolding(crate::specs::QueryViews::part_tree, crate::specs::QueryViews::new_element_tree, crate::specs::QueryViews::assign_tree))]
+#[tactic(auto, unfolding(crate::specs::QueryViews::part_by, crate::specs::QueryViews::new_element_by, crate::specs::QueryViews::assign_by))]
 impl ConstructPart {
     /// `(x)`
     pub fn node(element: NewElement) -> ConstructPart
@@ -70,7 +70,7 @@ impl ConstructPart {
     }
 }
 
-#[tactic(auto, unfolding(crate::specs::QueryViews::new_element_tree, crate::specs::QueryViews::assign_tree))]
+#[tactic(auto, unfolding(crate::specs::QueryViews::new_element_by, crate::specs::QueryViews::assign_by))]
 impl NewElement {
     /// A node or an edge: its name, what it copies, what it is grouped by, its labels and properties.
     pub fn of(
@@ -94,7 +94,7 @@ impl NewElement {
     }
 }
 
-#[tactic(auto, unfolding(crate::specs::QueryViews::assign_tree, crate::specs::QueryViews::formula_tree))]
+#[tactic(auto, unfolding(crate::specs::QueryViews::assign_by, crate::specs::QueryViews::formula_by))]
 impl Assign {
     /// `k := e`
     pub fn of(token: u32, property: Name, value: Formula) -> Assign
@@ -108,7 +108,7 @@ impl Assign {
     }
 }
 
-#[tactic(auto, unfolding(crate::specs::QueryViews::change_tree, crate::specs::QueryViews::assign_tree))]
+#[tactic(auto, unfolding(crate::specs::QueryViews::change_by, crate::specs::QueryViews::assign_by))]
 impl Change {
     /// `SET x.k := e`
     pub fn set_property(target: NameAt, assign: Assign) -> Change

@@ -4,19 +4,35 @@ ghost use Rattle.gc_expr.specs.Views.{Names, expr_tree};
 ghost use Rattle.gc_ast.specs.Trees as tree;
 ghost use Rattle.gc_ast.specs.Trees.{row, rows, maybe};
 ghost use Rattle.gc_ast.specs.PatternViews.{named, pattern_tree, located_tree};
-ghost use Rattle.gc_ast.specs.QueryViews.{query_tree, term_tree, head_tree, next_term_tree, basic_tree, formula_tree, block_tree, optional_tree, item_tree};
+ghost use Rattle.gc_ast.specs.QueryViews.{statement_tree, query_tree, term_tree, head_tree, next_term_tree, basic_tree, formula_tree, block_tree, optional_tree, item_tree};
 
 use crate::construct::ItemList;
 use crate::pattern::{ChainList, LocatedList};
 use crate::query::{
     Basic, Formula, Head, HeadList, MatchBlock, NextTerm, NextTermList, OptionalBlock,
-    OptionalList, Query, QueryList, SetOp, Term,
+    OptionalList, Query, QueryList, SetOp, Statement, Term,
 };
 use gc_base::{Memory, NameAt};
 use gc_expr::Expr;
 use std::alloc::Global;
 
-#[tactic(auto, unfolding(crate::specs::QueryViews::query_tree, crate::specs::QueryViews::head_tree, crate::specs::QueryViews::term_tree, crate::specs::QueryViews::next_term_tree))]
+impl Statement {
+    /// `GRAPH VIEW g AS (q)`
+    pub fn view(name: NameAt, query: Query) -> Statement
+        ensures { (names : Names) → statement_tree names result ≡ tree.View (named names name) (query_tree names query) }
+    {
+        Statement::View { name, query }
+    }
+
+    /// A query, whose answer is the statement's.
+    pub fn ask(query: Query) -> Statement
+        ensures { (names : Names) → statement_tree names result ≡ tree.Ask (query_tree names query) }
+    {
+        Statement::Ask(query)
+    }
+}
+
+#[tactic(auto, unfolding(crate::specs::QueryViews::query_by, crate::specs::QueryViews::head_by, crate::specs::QueryViews::term_by, crate::specs::QueryViews::next_term_by))]
 impl Query {
     /// A query of its heads, its first term and the later ones.
     pub fn of(heads: HeadList, first: Term, rest: NextTermList) -> Query
@@ -26,7 +42,7 @@ impl Query {
     }
 }
 
-#[tactic(auto, unfolding(crate::specs::QueryViews::query_tree, crate::specs::QueryViews::basic_tree, crate::specs::QueryViews::term_tree))]
+#[tactic(auto, unfolding(crate::specs::QueryViews::query_by, crate::specs::QueryViews::basic_by, crate::specs::QueryViews::term_by))]
 impl Term {
     /// A named graph.
     pub fn graph(name: NameAt) -> Term
@@ -50,7 +66,7 @@ impl Term {
     }
 }
 
-#[tactic(auto, unfolding(crate::specs::QueryViews::next_term_tree, crate::specs::QueryViews::term_tree))]
+#[tactic(auto, unfolding(crate::specs::QueryViews::next_term_by, crate::specs::QueryViews::term_by))]
 impl NextTerm {
     /// A set operation and its right side.
     pub fn of(op: SetOp, term: Term) -> NextTerm
@@ -60,7 +76,7 @@ impl NextTerm {
     }
 }
 
-#[tactic(auto, unfolding(crate::specs::QueryViews::head_tree, crate::specs::QueryViews::formula_tree, crate::specs::QueryViews::query_tree))]
+#[tactic(auto, unfolding(crate::specs::QueryViews::head_by, crate::specs::QueryViews::formula_by, crate::specs::QueryViews::query_by))]
 impl Head {
     /// `PATH v = .. WHERE e COST e`
     pub fn path(
@@ -87,7 +103,7 @@ impl Head {
     }
 }
 
-#[tactic(auto, unfolding(crate::specs::QueryViews::formula_tree, crate::specs::QueryViews::query_tree))]
+#[tactic(auto, unfolding(gc_expr::specs::Views::expr_tree, crate::specs::QueryViews::formula_by, crate::specs::QueryViews::query_by))]
 impl Formula {
     /// An expression with the queries of its own EXISTS.
     pub fn of(expr: Expr, exists: QueryList) -> Formula
@@ -97,7 +113,7 @@ impl Formula {
     }
 }
 
-#[tactic(auto, unfolding(crate::specs::QueryViews::basic_tree, crate::specs::QueryViews::item_tree, crate::specs::QueryViews::block_tree, crate::specs::QueryViews::optional_tree))]
+#[tactic(auto, unfolding(crate::specs::QueryViews::basic_by, crate::specs::QueryViews::item_by, crate::specs::QueryViews::block_by, crate::specs::QueryViews::optional_by))]
 impl Basic {
     /// A CONSTRUCT with its MATCH.
     pub fn of(token: u32, items: ItemList, main: MatchBlock, optionals: OptionalList) -> Basic
@@ -112,7 +128,7 @@ impl Basic {
     }
 }
 
-#[tactic(auto, unfolding(crate::specs::QueryViews::block_tree, crate::specs::QueryViews::formula_tree))]
+#[tactic(auto, unfolding(crate::specs::QueryViews::block_by, crate::specs::QueryViews::formula_by))]
 impl MatchBlock {
     /// Patterns and their condition.
     pub fn of(patterns: LocatedList, filter: Option<Formula>) -> MatchBlock
@@ -122,7 +138,7 @@ impl MatchBlock {
     }
 }
 
-#[tactic(auto, unfolding(crate::specs::QueryViews::optional_tree, crate::specs::QueryViews::block_tree))]
+#[tactic(auto, unfolding(crate::specs::QueryViews::optional_by, crate::specs::QueryViews::block_by))]
 impl OptionalBlock {
     /// An OPTIONAL block.
     pub fn of(token: u32, block: MatchBlock) -> OptionalBlock

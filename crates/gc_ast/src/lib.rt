@@ -5,15 +5,21 @@
 mod build_construct;
 mod build_query;
 mod construct;
+mod copy_pattern;
+mod copy_query;
 mod file;
+mod names;
 mod pattern;
 mod query;
+#[cfg(test)]
+mod tests;
 
 pub use construct::{
     Assign, AssignList, Change, ChangeList, ConstructPart, ConstructPartList, GroupTerm,
     GroupTermList, Item, ItemList, NewElement,
 };
 pub use file::{File, PlaceList};
+pub use names::NameTable;
 pub use pattern::{
     Chain, ChainList, CountAt, Element, Located, LocatedList, NameAtList, PathBody, Pattern,
     PatternList, PropertyUse, PropertyUseList,

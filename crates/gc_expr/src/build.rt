@@ -7,7 +7,7 @@ use crate::expr::{Comparison, Expr, ExprList, ExprNode, Fold, ProductPartList, S
 use gc_base::{Memory, Name, Str, Sym};
 use std::alloc::Global;
 
-#[tactic(auto, unfolding(crate::specs::Views::expr_tree, crate::specs::Views::sum_part_tree, crate::specs::Views::product_part_tree))]
+#[tactic(auto, unfolding(crate::specs::Views::expr_tree, crate::specs::Views::sum_part_tree, crate::specs::Views::product_part_tree, crate::specs::Views::numbered_expr, crate::specs::Views::numbered_sum_part, crate::specs::Views::numbered_product_part, crate::specs::Trees::renamed))]
 impl Expr {
     /// A number.
     pub fn number(token: u32, number: i64) -> Expr
@@ -135,6 +135,7 @@ impl Expr {
         })
     }
 
+    #[tactic(auto, using(crate::proofs::Lists::sum_tree))]
     /// A chain of `+` and `-`.
     pub fn sum(alloc: Global, token: u32, first: Expr, rest: SumPartList) -> Result<Expr, Memory>
         ensures { IfOk result (λ e. (names : Names) → expr_tree names e ≡ At token (tree.Sum (expr_tree names first) (row (map (sum_part_tree names) rest.items)))) }
@@ -146,6 +147,7 @@ impl Expr {
         })
     }
 
+    #[tactic(auto, using(crate::proofs::Lists::product_tree))]
     /// A chain of `*`, `/` and `%`.
     pub fn product(
         alloc: Global,
@@ -191,6 +193,7 @@ impl Expr {
         })
     }
 
+    #[tactic(auto, using(crate::proofs::Lists::and_tree))]
     /// All of the parts.
     pub fn and(token: u32, parts: ExprList) -> Expr
         ensures { (names : Names) → expr_tree names result ≡ At token (tree.And (row (map (expr_tree names) parts.items))) }
@@ -201,6 +204,7 @@ impl Expr {
         }
     }
 
+    #[tactic(auto, using(crate::proofs::Lists::or_tree))]
     /// One of the parts.
     pub fn or(token: u32, parts: ExprList) -> Expr
         ensures { (names : Names) → expr_tree names result ≡ At token (tree.Or (row (map (expr_tree names) parts.items))) }

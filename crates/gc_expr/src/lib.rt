@@ -4,7 +4,10 @@
 #![tactic(auto)]
 
 mod build;
+mod copy;
 mod expr;
+#[cfg(test)]
+mod tests;
 
 pub use expr::{
     Comparison, Expr, ExprList, ExprNode, Fold, ProductOp, ProductPart, ProductPartList, SumPart,

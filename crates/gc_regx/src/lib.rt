@@ -3,6 +3,7 @@
 #![tactic(auto)]
 
 mod build;
+mod copy;
 mod regex;
 #[cfg(test)]
 mod tests;
