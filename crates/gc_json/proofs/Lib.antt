@@ -1,3 +1,4 @@
+pub mod FileAgrees
 mod Keys
 mod GraphsLoadBack
 pub mod GraphsReadBack

@@ -1,5 +1,6 @@
-ghost use Rattle.std.specs.Prelude.{◌≡◌, ◌+◌, ◌-◌, ◌^◌, min, length};
+ghost use Rattle.std.specs.Prelude.{◌≡◌, true, IfOk, ◌+◌, ◌-◌, ◌^◌, min, length};
 ghost use Rattle.gc_spec.specs.PropertyGraph.{empty_graph};
+ghost use Rattle.gc_ppg.specs.Shapes.{graph_agrees};
 ghost use Rattle.gc_json.specs.FileElements.{add_element_of};
 ghost use Rattle.gc_json.specs.GraphFiles.{add_elements_of, file_graph, graph_of_data, graph_of_few, graph_of_lists, is_file_object, lists_at, lists_of, located, part_of, refusal_at, whole, Loads};
 ghost use Rattle.gc_json.specs.JsonValues.{value_of};
@@ -26,7 +27,8 @@ const MOST_ELEMENTS: usize = 1_000_000;
 /// refused for the first rule that it breaks: its JSON, its shape, the number of its elements, and
 /// then element by element, nodes before edges before paths.
 pub fn load(alloc: Global, bytes: &[u8], seen: &Coherence) -> Result<Graph, GraphRefusal>
-    ensures { Loads (file_graph seen.now bytes.now) result }
+    ensures loads { Loads (file_graph seen.now bytes.now) result }
+    ensures agrees { IfOk result (λ g. graph_agrees seen.now g ≡ true) }
 {
     match graph_of(alloc, bytes, seen) {
         Ok(builder) => Ok(builder.finish()?),

@@ -3,6 +3,7 @@ pub mod ElementLists
 pub mod ElementMaps
 pub mod EndPlaces
 pub mod Finds
+pub mod FreeIds
 pub mod LabelIndexes
 pub mod LabelReads
 pub mod Runs

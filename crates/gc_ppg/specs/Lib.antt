@@ -1,4 +1,5 @@
 pub mod Built
+pub mod FreeIds
 pub mod KeyedPlaces
 pub mod LabelPlaces
 pub mod LabelReads

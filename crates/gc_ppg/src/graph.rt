@@ -3,6 +3,7 @@ ghost use Rattle.std.specs.List.{filter};
 ghost use Rattle.std.specs.Option.{option_copied, option_and_then};
 ghost use Rattle.gc_spec.specs.PropertyGraph.{IsGraph, node_at, edge_at, path_at};
 ghost use Rattle.gc_ppg.specs.Labelled.{has_label, nodes_with_label};
+ghost use Rattle.gc_ppg.specs.FreeIds.{above, first_free};
 ghost use Rattle.gc_ppg.specs.Reads.{handed_out};
 ghost use Rattle.gc_ppg.specs.KeyedPlaces.{AreEnds};
 
@@ -183,6 +184,17 @@ impl Graph {
         counted(self.edge_at(place), steps)
     }
 
+    /// The first identity that is above all of the graph, or 0 where it has no element. It hands out
+    /// no element.
+    pub fn first_free(&self) -> u64
+        ensures free { result ≡ first_free self.now }
+        ensures valid { IsGraph self.now }
+    {
+        let nodes = above(0, self.nodes());
+        let edges = above(nodes, self.edges());
+        above(edges, self.paths())
+    }
+
     /// How many elements of a kind have a label.
     pub fn label_count(&self, kind: Kind, label: &Name) -> usize
         ensures { result ≡ length (labelled_ids self.now kind label.now) }
@@ -282,6 +294,17 @@ impl Graph {
         let kept = labelled_nodes(alloc, self.nodes(), label)?;
         Graph::of_elements(alloc, kept, Vec::new(alloc), Vec::new(alloc))
     }
+}
+
+// The first number from one on that is above the identities of some elements.
+fn above<T: Element>(start: u64, elements: &[T]) -> u64
+    ensures { result ≡ above start (map T.id_of elements.now) }
+{
+    let mut free = start;
+    for element in elements {
+        free = free.max(element.id().get() + 1);
+    }
+    free
 }
 
 // The i-th of some places.
