@@ -11,7 +11,5 @@ pub mod Located
 pub mod PartsSeen
 pub mod PropertyMembers
 pub mod Reading
-pub mod Refusals
-pub mod ThinFiles
 pub mod WalkItems
 pub mod Writing

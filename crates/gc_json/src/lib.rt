@@ -21,7 +21,6 @@ mod refusal;
 #[cfg(test)]
 mod tests;
 mod text;
-mod thin;
 mod values;
 mod walks;
 
@@ -29,4 +28,3 @@ pub use laws::{canonical_texts_load_back, canonical_texts_read_back};
 pub use loading::load;
 pub use refusal::{GraphRefusal, Part, Spot};
 pub use text::print;
-pub use thin::{ThinRefusal, load_thin};
