@@ -6,7 +6,7 @@ use Rattle.gc_lex.specs.declared.token.Mark.TheVariants.{Minus}
 use Rattle.gc_expr.specs.Trees as tree
 use Rattle.gc_expr.specs.Trees.{At}
 use Rattle.gc_grammar.specs.Words.{Point, Lang, next, IsName, ◌⋅◌, ◌⇒◌, optional, many, separated, the_word, this, that}
-use Rattle.gc_grammar.specs.Expressions.{Inside, Expr, prim, post, neg, prod, sum_part, sum, cmp, not, and, expr, suffix, product_part, comparison, suffixed, prefixed, multiplied, summed, compared, chained}
+use Rattle.gc_grammar.specs.Expressions.{Inside, prim, post, neg, prod, sum_part, sum, cmp, not, and, suffix, product_part, comparison, suffixed, prefixed, multiplied, summed, compared, chained}
 use Rattle.gc_grammar.specs.Examples.{variable}
 use Rattle.gc_grammar.proofs.Spellings.{spells_mark, spells_name}
 
