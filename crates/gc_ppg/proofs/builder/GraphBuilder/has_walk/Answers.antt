@@ -1,4 +1,4 @@
-use Rattle.std.proofs.Common.{sym, ap, ◌∙◌}
+use Rattle.std.proofs.Common.{ap, ◌∙◌}
 use Rattle.gc_ppg.proofs.WalkTests.{is_nothing, walk_tested}
 use Rattle.gc_ppg.proofs.builder.GraphBuilder.has_walk.Goals as goal
 

@@ -1,4 +1,4 @@
-use Rattle.std.proofs.Common.{◌≡◌, map, ap, ◌∙◌}
+use Rattle.std.proofs.Common.{map, ap, ◌∙◌}
 use Rattle.gc_ppg.specs.FreeIds.{above}
 use Rattle.gc_ppg.proofs.FreeIds.{first_free_is}
 use Rattle.gc_ppg.proofs.graph.Graph.first_free.Goals as goal
