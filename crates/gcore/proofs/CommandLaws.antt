@@ -4,7 +4,7 @@ use Rattle.std.specs.Prelude.{codes, if◌then◌else◌, IfOk}
 use Rattle.std.specs.Option.{option_map, option_and_then}
 use Rattle.std.proofs.Math.Seq.{drop-cons}
 use Rattle.gc_base.specs.PropertyLists.{is_nil}
-use Rattle.gcore.specs.CommandLines.{session_of, check_of, made, make_of, make_of_words, form_of, is_verb, HasGraphs, IsForm}
+use Rattle.gcore.specs.CommandLines.{session_of, check_of, made, make_of, form_of, is_verb, HasGraphs, IsForm}
 use Rattle.gcore.specs.MakeLines.{kind_of, most_size, number_within}
 use Rattle.gcore.specs.Pairs.{pair_of, pairs_of, are_graphs, graphs_in}
 use Rattle.gcore.specs.declared.command.Command.{Command}

@@ -1,16 +1,22 @@
 -- Graph files that are read one after another.
-use Rattle.std.proofs.Common.{◌≡◌, ℕ, zero, suc, ◌+◌, ◌<◌, ◌≤◌, List, [], ◌∷◌, ◌++◌, length, take, drop, get_or, map, append-nil, append_assoc, Option, Some, None, Result, Ok, Err, refl, sym, ap, ◌∙◌, subst, arith, inl, inr}
+use Rattle.std.proofs.Common.{◌≡◌, ◌&&◌, ◌||◌, not, Bool, true, false, cond, nat_eq, nat_lt, nat_le, ℕ, zero, suc, ◌+◌, ◌<◌, ◌≤◌, List, [], ◌∷◌, ◌++◌, length, take, drop, get_or, map, append-nil, append_assoc, Option, Some, None, Result, Ok, Err, refl, sym, ap, ◌∙◌, subst, arith, inl, inr}
 use Rattle.std.specs.Prelude.{IfSome, IsOk, ◌⊎◌}
 use Rattle.std.specs.Result.{IsErr, IsErrAnd}
+use Rattle.std.specs.List.{AllByRecursion, prefix_len}
+use Rattle.std.specs.Prelude.{position}
+use Rattle.std.proofs.lemmas.Bool.Decides.{nat_tests}
+use Rattle.std.specs.Cmp.Lexicographic.{pointwise, nat_list_eq_equiv}
 use Rattle.std.proofs.lemmas.List.{take-append-drop}
 use Rattle.gc_base.specs.Faults.{Rose}
 use Rattle.gc_base.specs.Files.{Files}
 use Rattle.gc_spec.specs.Coherence.{shapes_of}
 use Rattle.gc_spec.specs.PropertyGraph.{PropertyGraph}
+use Rattle.gc_catalog.specs.NamedGraphs.{NamedGraphs, number_of}
 use Rattle.gc_json.specs.FileElements.{Seen}
 use Rattle.gcore.specs.Endings.{IsTurnOfGraph}
 use Rattle.gcore.specs.GraphSteps.{ReadsGraphs, StopsReadingGraphs}
 use Rattle.gcore.specs.Outcomes.{then_due, graph_due, graphs_due}
+use Rattle.gcore.specs.Pairs.{has_name, names_differ, are_graphs}
 use Rattle.gcore.specs.Steps.{Reading, StopsReadingGraph}
 use Rattle.gcore.specs.declared.pair.Pair.{Pair}
 use Rattle.gcore.specs.declared.stop.Stop.{Stop}
@@ -120,8 +126,8 @@ stops told pairs before p after seen gs first middle last Unwritten split stands
 stops told pairs before p after seen gs first middle last OutOfMemory split stands due le h = tt
 
 -- what a step that stops for a cause answers
-pub reads_stop : (reading : Reading) (pairs : List Pair) (result : Result (List PropertyGraph) Stop) (stop : Stop) → IsErr result → IsErrAnd result (λ refusal. refusal ≡ stop) → StopsReadingGraphs reading pairs stop → ReadsGraphs reading pairs result
-reads_stop reading pairs (Ok graphs) stop err same h = absurd same
+pub reads_stop : (reading : Reading) (pairs : List Pair) (result : Result NamedGraphs Stop) (stop : Stop) → IsErr result → IsErrAnd result (λ refusal. refusal ≡ stop) → StopsReadingGraphs reading pairs stop → ReadsGraphs reading pairs result
+reads_stop reading pairs (Ok c) stop err same h = absurd same
 reads_stop reading pairs (Err refusal) stop err same h = subst (StopsReadingGraphs reading pairs) (sym same) h
 
 pub length_more : {X : Type 0} (xs : List X) (x : X) → length (xs ++ x ∷ []) ≡ length xs + 1
@@ -131,3 +137,49 @@ length_more (y ∷ xs) x = let rest = length_more xs x in omega (arith, rest)
 pub map_more : {X Y : Type 0} (f : X → Y) (xs : List X) (x : X) → map f xs ++ f x ∷ [] ≡ map f (xs ++ x ∷ [])
 map_more f [] x = refl
 map_more f (y ∷ xs) x = ap (λ ys. f y ∷ ys) (map_more f xs x)
+
+-- whether a name is there, from either side
+same_name : (a b : List ℕ) → pointwise nat_eq a b ≡ false → pointwise nat_eq b a ≡ false
+same_name a b h = nat_list_eq_equiv.symm b a ∙ h
+
+split_or : (a b : Bool) → (a || b) ≡ false → (a ≡ false) × (b ≡ false)
+split_or true b h = absurd (cc)
+split_or false b h = (refl, h)
+
+split_and : (a b : Bool) → (a && b) ≡ true → (a ≡ true) × (b ≡ true)
+split_and true b h = (refl, h)
+split_and false b h = absurd (cc)
+
+not_true : (b : Bool) → not b ≡ true → b ≡ false
+not_true true h = absurd (cc)
+not_true false h = refl
+
+-- a name among some pairs is not that of one of them, where it is not among them
+not_among : (before : List Pair) (p : Pair) (after : List Pair) (name : List ℕ) → has_name (before ++ p ∷ after) name ≡ false → pointwise nat_eq p.name name ≡ false
+not_among [] p after name h = (split_or (pointwise nat_eq p.name name) (has_name after name) h).0
+not_among (b ∷ before) p after name h = not_among before p after name (split_or (pointwise nat_eq b.name name) (has_name (before ++ p ∷ after) name) h).1
+
+-- what stands nowhere has no place
+no_place : {X : Type 0} (p : X → Bool) (xs : List X) → AllByRecursion (λ x. p x ≡ false) xs → prefix_len (λ x. not (p x)) xs ≡ length xs
+no_place p [] h = refl
+no_place p (x ∷ xs) h = let rest = no_place p xs h.1 in rw h.0 (omega (arith, rest))
+
+nowhere : {X : Type 0} (p : X → Bool) (xs : List X) → AllByRecursion (λ x. p x ≡ false) xs → position p xs ≡ None
+nowhere p xs h =
+    let past = no_place p xs h in
+    let out : nat_lt (prefix_len (λ x. not (p x)) xs) (length xs) ≡ false = grind (arith, nat_tests) in
+    ap (λ b. cond b (Some (prefix_len (λ x. not (p x)) xs)) None) out
+
+-- where names differ, the name of a pair is none of those of earlier ones
+others : (before : List Pair) (p : Pair) (after : List Pair) → names_differ (before ++ p ∷ after) ≡ true → AllByRecursion (λ name. pointwise nat_eq name p.name ≡ false) (map (λ (q : Pair). q.name) before)
+others [] p after h = tt
+others (b ∷ before) p after h =
+    let parts = split_and (not (has_name (before ++ p ∷ after) b.name)) (names_differ (before ++ p ∷ after)) h in
+    (same_name p.name b.name (not_among before p after b.name (not_true (has_name (before ++ p ∷ after) b.name) parts.0)), others before p after parts.1)
+
+pub not_yet : (before : List Pair) (p : Pair) (after : List Pair) → names_differ (before ++ p ∷ after) ≡ true → number_of (map (λ (q : Pair). q.name) before) p.name ≡ None
+not_yet before p after h = nowhere (λ name. pointwise nat_eq name p.name) (map (λ (q : Pair). q.name) before) (others before p after h)
+
+-- graph files are under names that differ
+pub graphs_differ : (pairs : List Pair) → are_graphs pairs ≡ true → names_differ pairs ≡ true
+graphs_differ pairs h = (split_and (nat_lt 0 (length pairs) && nat_le (length pairs) 8) (names_differ pairs) h).1

@@ -1,5 +1,5 @@
 -- What is told of a graph file that breaks a rule.
-use Rattle.std.specs.Prelude.{ℕ, ◌<◌, ◌^◌, List, [], ◌∷◌, ◌++◌, codes, ⊤}
+use Rattle.std.specs.Prelude.{ℕ, ◌<◌, ◌^◌, List, ◌∷◌, ◌++◌, codes, ⊤}
 use Rattle.std.specs.Fmt.{decimal}
 use Rattle.gc_spec.specs.PropertyGraph.{IsId}
 use Rattle.gc_json.specs.declared.refusal.GraphRefusal.{GraphRefusal}

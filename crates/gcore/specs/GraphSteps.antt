@@ -1,8 +1,7 @@
 -- What reading the graph files answers.
-use Rattle.std.specs.Prelude.{◌≡◌, List, [], length, Result, Ok, Err, IfSome, MatchOption, ⊤, ◌⊎◌}
+use Rattle.std.specs.Prelude.{◌≡◌, List, [], length, map, Result, Ok, Err, IfSome, MatchOption, ⊤, ◌⊎◌}
 use Rattle.gc_base.specs.Faults.{Rose}
-use Rattle.gc_base.specs.Files.{Files}
-use Rattle.gc_spec.specs.PropertyGraph.{PropertyGraph}
+use Rattle.gc_catalog.specs.NamedGraphs.{NamedGraphs}
 use Rattle.gcore.specs.Endings.{IsTurnOfGraph}
 use Rattle.gcore.specs.GraphLines.{IsHeld}
 use Rattle.gcore.specs.Outcomes.{graphs_due}
@@ -27,9 +26,9 @@ StopsReadingGraphs reading pairs NotBuilt = IsDueFor reading pairs NotBuilt
 StopsReadingGraphs reading pairs Unwritten = ⊥
 StopsReadingGraphs reading pairs OutOfMemory = ⊤
 
--- the graphs that are due, one for each file, or a stop
-abbrev pub ReadsGraphs : Reading → List Pair → Result (List PropertyGraph) Stop → Type 0
-ReadsGraphs reading pairs (Ok graphs) = (length graphs ≡ length pairs) × IfSome reading.files (λ files. graphs_due files [] pairs ≡ Ok graphs)
+-- a catalog of the graphs that are due, one for each file under its name, or a stop
+abbrev pub ReadsGraphs : Reading → List Pair → Result NamedGraphs Stop → Type 0
+ReadsGraphs reading pairs (Ok c) = (c.names ≡ map (λ (p : Pair). p.name) pairs) × (length c.graphs ≡ length pairs) × IfSome reading.files (λ files. graphs_due files [] pairs ≡ Ok c.graphs)
 ReadsGraphs reading pairs (Err stop) = StopsReadingGraphs reading pairs stop
 
 -- a stop as the machine holds it

@@ -66,9 +66,9 @@ fn run_query<F: Folder, S: Sink, L: Ledger>(
     ensures outcome { Answers (record { command = Some (Run query.now pairs.now); files = F.files folder.old; faults_before = F.faults folder.old; faults_after = F.faults folder.new; out = record { faults_before = S.faults out.old; faults_after = S.faults out.new; taken_before = S.taken out.old; taken_after = S.taken out.new } }) result }
     ensures kept { F.files folder.new ≡ F.files folder.old }
 {
-    let graphs = read_graphs(alloc, folder, pairs)?;
+    let catalog = read_graphs(alloc, folder, pairs)?;
     let label = read_label(alloc, folder, query)?;
-    write_labelled(alloc, graphs.at(0), &label, out, steps)
+    write_labelled(alloc, catalog.graphs().at(0), &label, out, steps)
 }
 
 // Writes the text of the nodes of a label.

@@ -1,31 +1,54 @@
-ghost use Rattle.std.specs.Prelude.{◌≡◌, ◌≤◌};
+ghost use Rattle.std.specs.Prelude.{◌≡◌, ◌≤◌, ◌++◌, ◌∷◌, [], None, true, OnOk};
+ghost use Rattle.std.specs.List.{AllByRecursion};
+ghost use Rattle.gc_spec.specs.Coherence.{AreCoherent};
+ghost use Rattle.gc_catalog.specs.NamedGraphs.{number_of};
 ghost use Rattle.gcore.specs.GraphSteps.{ReadsGraphs};
+ghost use Rattle.gcore.specs.Pairs.{names_differ};
 ghost use Rattle.gcore.specs.Steps.{Reading};
 
 use crate::inputs::read_graph;
 use crate::pair::Pair;
 use crate::stop::Stop;
+use gc_base::{Duplicate, Memory, Name};
+use gc_catalog::{AddRefusal, Catalog};
 use gc_io::Folder;
-use gc_ppg::{Coherence, GraphList};
+use gc_ppg::{Coherence, Graph};
 use std::alloc::Global;
 
-/// The graphs of graph files, one after another, each beside what identities stand for in the
+/// The catalog of graph files, one after another, each beside what identities stand for in the
 /// graphs of the files before it.
 pub fn read_graphs<F: Folder>(
     alloc: Global,
     folder: &mut F,
     pairs: &[Pair],
-) -> Result<GraphList, Stop>
+) -> Result<Catalog, Stop>
+    requires { names_differ pairs.now ≡ true }
     ensures outcome { ReadsGraphs (record { files = F.files folder.old; faults_before = F.faults folder.old; faults_after = F.faults folder.new }) pairs.now result }
     ensures later { F.faults folder.old ≤ F.faults folder.new }
     ensures kept { F.files folder.new ≡ F.files folder.old }
 {
-    let mut graphs = GraphList::new(alloc);
+    let mut catalog = Catalog::new(alloc);
     let mut seen = Coherence::new(alloc);
     for pair in pairs {
         let graph = read_graph(alloc, folder, &pair.file, &seen)?;
         seen.add(&graph)?;
-        graphs.push(graph)?;
+        add_loaded(&mut catalog, &pair.name, graph)?;
     }
-    Ok(graphs)
+    Ok(catalog)
+}
+
+// Puts a loaded graph into a catalog, under a name that is not there.
+fn add_loaded(catalog: &mut Catalog, name: &Name, graph: Graph) -> Result<(), Memory>
+    requires coherent { AllByRecursion (λ h. AreCoherent h graph) catalog.old.graphs }
+    requires fresh { number_of catalog.old.names name.now ≡ None }
+    ensures graphs { OnOk result (catalog.new.graphs ≡ catalog.old.graphs ++ graph ∷ []) }
+    ensures names { OnOk result (catalog.new.names ≡ catalog.old.names ++ name.now ∷ []) }
+{
+    let free = catalog.next().max(graph.first_free());
+    catalog.set_next(free);
+    match catalog.add(name.copy()?, graph) {
+        Ok(_) => Ok(()),
+        Err(AddRefusal::NameTaken) => unreachable!(),
+        Err(AddRefusal::Memory) => Err(Memory),
+    }
 }

@@ -1,5 +1,6 @@
-ghost use Rattle.std.specs.Prelude.{◌≡◌, ◌≤◌};
+ghost use Rattle.std.specs.Prelude.{◌≡◌, ◌≤◌, true, IfOk};
 ghost use Rattle.gc_json.specs.GraphFiles.{file_graph};
+ghost use Rattle.gc_ppg.specs.Shapes.{graph_agrees};
 ghost use Rattle.gcore.specs.Outcomes.{accepted, file_due, graph_due, label_due};
 ghost use Rattle.gcore.specs.Steps.{Accepts, Builds, Reads, ReadsGraph, Reading};
 ghost use Rattle.gcore.specs.ThinQueries.{thin_label};
@@ -26,6 +27,7 @@ pub fn read_graph<F: Folder>(
     seen: &Coherence,
 ) -> Result<Graph, Stop>
     ensures outcome { ReadsGraph (record { files = F.files folder.old; faults_before = F.faults folder.old; faults_after = F.faults folder.new }) name.now (λ files. graph_due files seen.now name.now) result }
+    ensures agrees { IfOk result (λ g. graph_agrees seen.now g ≡ true) }
     ensures later { F.faults folder.old ≤ F.faults folder.new }
     ensures kept { F.files folder.new ≡ F.files folder.old }
 {
@@ -35,7 +37,8 @@ pub fn read_graph<F: Folder>(
 
 // The graph of the bytes of a graph file.
 fn load_named(alloc: Global, bytes: &[u8], name: &Str, seen: &Coherence) -> Result<Graph, Stop>
-    ensures { Accepts (accepted name.now (file_graph seen.now bytes.now)) result }
+    ensures accepts { Accepts (accepted name.now (file_graph seen.now bytes.now)) result }
+    ensures agrees { IfOk result (λ g. graph_agrees seen.now g ≡ true) }
 {
     match load(alloc, bytes, seen) {
         Ok(graph) => Ok(graph),

@@ -1,4 +1,4 @@
-use Rattle.std.proofs.Common.{◌≡◌, ◌+◌, ℕ, suc, List, [], ◌∷◌, ◌++◌, map, Some, None, Option, refl, sym, subst, arith, inl, inr}
+use Rattle.std.proofs.Common.{ℕ, suc, List, [], ◌∷◌, ◌++◌, map, Some, None, Option, refl, sym, subst, arith, inl, inr}
 use Rattle.std.specs.Prelude.{IsSomeAnd, Contains}
 use Rattle.gc_base.specs.Files.{Files}
 use Rattle.gcore.specs.Endings.{Call, IsTurnOf, IsTurnOfGraph, MayStop, StopsFor, graphs_of, graph_files, named_files}
