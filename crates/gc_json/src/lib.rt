@@ -10,16 +10,12 @@ mod fault;
 mod labels;
 mod laws;
 mod literals;
-#[cfg(test)]
-mod load_tests;
 mod loading;
 mod nodes;
 mod parts;
 mod paths;
 mod properties;
 mod refusal;
-#[cfg(test)]
-mod tests;
 mod text;
 mod values;
 mod walks;
