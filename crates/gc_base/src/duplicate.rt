@@ -22,7 +22,7 @@ impl Duplicate for u64 {
     }
 }
 
-/// A vector of copies, in order.
+/// A vector of copies, in order, from the given allocator; `Memory` where that ends.
 pub fn copies<T: Duplicate + Drop>(alloc: Global, items: &[T]) -> Result<Vec<T>, Memory>
     ensures { IfOk result (λ copied. copied.items ≡ items.now) }
 {

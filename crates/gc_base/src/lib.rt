@@ -23,7 +23,7 @@ mod text;
 mod walk;
 
 pub use ascending::{Ascending, Item};
-pub use duplicate::Duplicate;
+pub use duplicate::{Duplicate, copies};
 pub use fault::EvalFault;
 pub use id::{Id, LARGEST_ID};
 pub use literal::{Literal, literal_cmp};

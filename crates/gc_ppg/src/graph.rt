@@ -13,7 +13,7 @@ use crate::label_index::LabelIndex;
 use crate::places::{PlaceAt, Places};
 use crate::search::find;
 use crate::shape::Kind;
-use gc_base::{Duplicate, Id, Memory, Name, Numbered, Steps};
+use gc_base::{Duplicate, Id, Memory, Name, Numbered, Steps, copies};
 use std::alloc::Global;
 use std::marker::Model;
 use std::sync::ledger::Ledger;
@@ -325,17 +325,6 @@ impl Duplicate for Graph {
         let paths = copies(alloc, self.paths())?;
         Graph::of_elements(alloc, nodes, edges, paths)
     }
-}
-
-// Copies of elements, in order.
-fn copies<T: Duplicate + Drop>(alloc: Global, elements: &[T]) -> Result<Vec<T>, Memory>
-    ensures { IfOk result (λ copied. copied.items ≡ elements.now) }
-{
-    let mut copied = Vec::with_capacity(alloc, elements.len())?;
-    for element in elements {
-        copied.push(element.copy()?)?;
-    }
-    Ok(copied)
 }
 
 // The identity of the element at a place.

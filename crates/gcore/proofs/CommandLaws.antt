@@ -11,7 +11,7 @@ use Rattle.gcore.specs.declared.command.Command.{Command}
 use Rattle.gcore.specs.declared.command.Command.TheVariants.{Run, Cert, Explain, Check, Make}
 use Rattle.gcore.specs.declared.command.CommandRefusal.{CommandRefusal}
 use Rattle.gcore.specs.declared.command.Session.{Session}
-use Rattle.gcore.specs.declared.make.MakeKind.{MakeKind}
+use Rattle.gc_base.specs.declared.place.MakeKind.{MakeKind}
 use Rattle.gcore.specs.declared.pair.Pair.{Pair}
 
 -- a list from one of its items on

@@ -4,8 +4,8 @@ use Rattle.std.specs.Option.{option_and_then}
 use Rattle.std.specs.Str.{all_ascii_digits}
 use Rattle.std.specs.Str.Parse.{digits_value}
 use Rattle.std.specs.Cmp.Lexicographic.{pointwise}
-use Rattle.gcore.specs.declared.make.MakeKind.{MakeKind}
-use Rattle.gcore.specs.declared.make.MakeKind.TheVariants.{Ring, Random}
+use Rattle.gc_base.specs.declared.place.MakeKind.{MakeKind}
+use Rattle.gc_base.specs.declared.place.MakeKind.TheVariants.{Ring, Random}
 
 abbrev pub kind_of : List ℕ → Option MakeKind
 kind_of word = if pointwise nat_eq word (codes "ring") then Some Ring else (if pointwise nat_eq word (codes "random") then Some Random else None)

@@ -1,9 +1,9 @@
 ghost use Rattle.std.specs.Prelude.{◌≡◌, ◌∷◌, map, string_bytes, IfOk};
 ghost use Rattle.gcore.specs.CommandLines.{HasGraphs, IsCommand, IsForm, IsSession, IsCheck};
 
-use crate::make::{MakeKind, make_of};
+use crate::make::make_of;
 use crate::pair::{PairList, graphs_of};
-use gc_base::{Memory, Str};
+use gc_base::{MakeKind, Memory, Str};
 use std::alloc::Global;
 
 /// What a command line asks for. The graph files are one to eight, of which the first is the

@@ -3,41 +3,31 @@ ghost use Rattle.std.specs.Str.{all_ascii_digits};
 ghost use Rattle.gcore.specs.MakeLines.{most_size, kind_of, number_within, number_of, within, is_number};
 
 use crate::command::{Command, CommandRefusal};
-
-/// The kinds of made graphs.
-#[derive(Clone, Copy, Debug, PartialEq, Eq)]
-pub enum MakeKind {
-    /// A directed cycle.
-    Ring,
-    /// Edges between nodes that are drawn by a linear congruential generator.
-    Random,
-}
+use gc_base::MakeKind;
 
 /// The greatest start of the generator.
 const MOST_START: u32 = 2_147_483_647;
 
-impl MakeKind {
-    // The kind of a word.
-    fn of(word: &str) -> Option<MakeKind>
-        ensures { result ≡ kind_of word.now }
-    {
-        if word == "ring" {
-            Some(MakeKind::Ring)
-        } else if word == "random" {
-            Some(MakeKind::Random)
-        } else {
-            None
-        }
+// The kind of a word.
+fn kind_of(word: &str) -> Option<MakeKind>
+    ensures { result ≡ kind_of word.now }
+{
+    if word == "ring" {
+        Some(MakeKind::Ring)
+    } else if word == "random" {
+        Some(MakeKind::Random)
+    } else {
+        None
     }
+}
 
-    // How many nodes a graph of the kind may have.
-    fn most_size(self) -> u32
-        ensures { result ≡ most_size self }
-    {
-        match self {
-            MakeKind::Ring => 2_000,
-            MakeKind::Random => 32_768,
-        }
+// How many nodes a graph of a kind may have.
+fn most_size(kind: MakeKind) -> u32
+    ensures { result ≡ most_size kind }
+{
+    match kind {
+        MakeKind::Ring => 2_000,
+        MakeKind::Random => 32_768,
     }
 }
 
@@ -56,10 +46,10 @@ pub fn make_of(words: &[String]) -> Result<Command, CommandRefusal>
 fn make_of_kind(kind: &str, size: &str, start: &str) -> Result<Command, CommandRefusal>
     ensures { IsMakeOf kind.now size.now start.now result }
 {
-    let Some(kind) = MakeKind::of(kind) else {
+    let Some(kind) = kind_of(kind) else {
         return Err(CommandRefusal::Usage);
     };
-    let Some(size) = number_within(1, kind.most_size(), size) else {
+    let Some(size) = number_within(1, most_size(kind), size) else {
         return Err(CommandRefusal::Usage);
     };
     let Some(start) = number_within(0, MOST_START, start) else {
