@@ -141,11 +141,12 @@ pub record Alone {A : Type 0} (L : Lang A) (start : Point) (ts : List Token) (v 
   pub queries : v.1 ≡ last.exists
   pub after : end ≡ record { token = last.token; exists = start.exists }
 
--- a query of an EXISTS, with its number: it is put behind those before it
+-- a query of an EXISTS, with its number: it is put behind those before it. The query itself has
+-- EXISTS queries in its own expressions alone
 pub record Numbered (L : Lang (Tree AQuery)) (start : Point) (ts : List Token) (i : ℕ) (end : Point) : Type 0 where
   pub query : Tree AQuery
   pub last : Point
-  pub spelled : L start ts query last
+  pub spelled : L (record { token = start.token; exists = [] }) ts query last
   pub number : i ≡ length start.exists
   pub after : end ≡ record { token = last.token; exists = start.exists ++ query ∷ [] }
 

@@ -1,0 +1,5 @@
+pub mod ConstructReaders
+pub mod ExpressionReaders
+pub mod PatternReaders
+pub mod QueryReaders
+pub mod RegexReaders

@@ -1,0 +1,2 @@
+//! The parser of query files.
+#![tactic(auto)]
