@@ -33,10 +33,18 @@ abbrev pub meant : {A : Type 0} → Option A → Reader A
 meant None p ts = Stuck p.token
 meant (Some a) p ts = Got a (next p) ts
 
+-- what the first token of a list means, and what follows it
+abbrev pub first_means : {A : Type 0} → (Token → Option A) → List Token → Option A
+first_means means [] = None
+first_means means (token ∷ ts) = means token
+
+abbrev pub behind : List Token → List Token
+behind [] = []
+behind (token ∷ ts) = ts
+
 -- one token, by what it means
 abbrev pub read_one : {A : Type 0} → (Token → Option A) → Reader A
-read_one means p [] = Stuck p.token
-read_one means p (token ∷ ts) = meant (means token) p ts
+read_one means p ts = meant (first_means means ts) p (behind ts)
 
 -- one reader, and then another
 abbrev pub read_both : {A B : Type 0} → Reader A → Reader B → Reader (A × B)
