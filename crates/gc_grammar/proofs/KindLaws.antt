@@ -1,9 +1,10 @@
 -- Kinds of tokens, and the first token of a list.
-use Rattle.std.proofs.Common.{◌≡◌, refl, sym, ap, ◌∙◌, ℕ, Bool, true, false, not, ◌&&◌, ◌||◌, nat_eq, List, [], ◌∷◌, ◌++◌, Option, Some, None}
-use Rattle.std.proofs.lemmas.Bool.{false≢true, eqb-true}
+use Rattle.std.proofs.Common.{◌≡◌, refl, sym, ap, ◌∙◌, ℕ, suc, ◌+◌, add-zero, add_assoc, cond, Bool, true, false, not, ◌&&◌, ◌||◌, nat_eq, List, [], ◌∷◌, ◌++◌, length, Option, Some, None}
+use Rattle.std.proofs.lemmas.Bool.{false≢true, eqb-true, eq-eqb}
 use Rattle.std.proofs.lemmas.List.Folds.{list_any-append}
+use Rattle.std.specs.List.{list_any, position_or_len, prefix_len, range_with_len}
 use Rattle.gc_lex.specs.declared.token.Token.{Token}
-use Rattle.gc_grammar.specs.Kinds.{kind, among, begins, begins_so, covers, apart}
+use Rattle.gc_grammar.specs.Kinds.{kind, among, begins, covers, apart}
 use Rattle.gc_grammar.specs.Right.{front, Alike, Outline, Opens}
 
 -- the parts of a test
@@ -79,7 +80,7 @@ begins_neither_right kinds others ts h = or_right (begins kinds ts) (begins othe
 pub among_left : (kinds others : List ℕ) (k : ℕ) → among kinds k ≡ true → among (kinds ++ others) k ≡ true
 among_left kinds others k h = list_any-append (nat_eq k) kinds others ∙ ap (λ b. b || among others k) h
 
-or_true : (b : Bool) → (b || true) ≡ true
+pub or_true : (b : Bool) → (b || true) ≡ true
 or_true true = refl
 or_true false = refl
 
@@ -112,3 +113,15 @@ opens_covered o kinds (token ∷ used) rest opens some c = covered kinds o.first
 pub opens_apart : (o : Outline) (kinds : List ℕ) (used rest : List Token) → Opens o used → o.empty ≡ false → apart kinds o.first ≡ true → begins kinds (used ++ rest) ≡ false
 opens_apart o kinds [] rest opens some c = neither opens some
 opens_apart o kinds (token ∷ used) rest opens some c = kept_apart kinds o.first (kind token) c opens
+
+-- a place in a list, counted on from a kind, is one of as many kinds in a row
+pub among_row : {X : Type 0} (p : X → Bool) (xs : List X) (k : ℕ) → list_any p xs ≡ true → among (range_with_len k (length xs)) (k + position_or_len p xs) ≡ true
+among_row p [] k h = absurd (false≢true h)
+among_row p (x ∷ xs) k h = here (among_row p xs (k + 1)) (p x) h
+  where
+    here : (list_any p xs ≡ true → among (range_with_len (k + 1) (length xs)) (k + 1 + position_or_len p xs) ≡ true) → (b : Bool) → (b || list_any p xs) ≡ true → among (range_with_len k (suc (length xs))) (k + cond (not b) (1 + prefix_len (λ y. not (p y)) xs) 0) ≡ true
+    here later true some = rw (add-zero, eq-eqb k k refl) refl
+    here later false some =
+        let place = position_or_len p xs in
+        ap (among (range_with_len k (suc (length xs)))) (sym (add_assoc k 1 place))
+        ∙ ap (λ b. nat_eq (k + 1 + place) k || b) (later some) ∙ or_true (nat_eq (k + 1 + place) k)

@@ -1,3 +1,5 @@
 pub mod Chains
 pub mod KindLaws
+pub mod RightBoth
+pub mod RightTokens
 pub mod Spellings

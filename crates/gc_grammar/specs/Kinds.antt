@@ -1,7 +1,7 @@
 -- Kinds of tokens, by which a reader chooses with one token in hand: a kind for each symbol and each
 -- reserved word, one for names, one for numbers and one for texts.
-use Rattle.std.specs.Prelude.{ℕ, Bool, true, false, ◌+◌, ◌&&◌, ◌==◌, not, List, [], ◌∷◌, nat_eq, if◌then◌else◌}
-use Rattle.std.specs.List.{list_any, list_all, position_or_len}
+use Rattle.std.specs.Prelude.{ℕ, suc, Bool, true, false, ◌+◌, ◌&&◌, not, List, [], ◌∷◌, length, nat_eq, if◌then◌else◌}
+use Rattle.std.specs.List.{list_any, list_all, position_or_len, range_with_len}
 use Rattle.std.specs.Cmp.Lexicographic.{pointwise}
 use Rattle.gc_base.specs.Words.{is_reserved, reserved_words}
 use Rattle.gc_lex.specs.declared.token.Token.{Token}
@@ -52,6 +52,10 @@ name_kind = 29
 -- the kind of a word: names have one, and each reserved word has its own
 abbrev pub word_kind : List ℕ → ℕ
 word_kind word = if is_reserved word then 30 + position_or_len (pointwise nat_eq word) reserved_words else name_kind
+
+-- the kinds that words have: that of names, and those of the reserved words
+abbrev pub any_word_kinds : List ℕ
+any_word_kinds = range_with_len name_kind (suc (length reserved_words))
 
 -- the kind of a token
 abbrev pub kind : Token → ℕ

@@ -1,6 +1,6 @@
 -- The words that a reader is written with, one for each word of the grammar. A reader takes from the
 -- front of a token list what it can use, with as few tokens in hand as tell its choices apart.
-use Rattle.std.specs.Prelude.{ℕ, zero, suc, ◌+◌, Bool, ℤ, List, [], ◌∷◌, ◌++◌, length, Option, Some, None, if◌then◌else◌, nat_eq}
+use Rattle.std.specs.Prelude.{ℕ, zero, suc, Bool, ℤ, List, [], ◌∷◌, ◌++◌, length, Option, Some, None, if◌then◌else◌, nat_eq}
 use Rattle.std.specs.Cmp.Lexicographic.{pointwise}
 use Rattle.gc_base.specs.Words.{is_reserved}
 use Rattle.gc_lex.specs.declared.token.Token.{Token}
