@@ -114,6 +114,11 @@ pub opens_apart : (o : Outline) (kinds : List ℕ) (used rest : List Token) → 
 opens_apart o kinds [] rest opens some c = neither opens some
 opens_apart o kinds (token ∷ used) rest opens some c = kept_apart kinds o.first (kind token) c opens
 
+-- what opens as an outline says and is not empty begins with one of its first tokens
+pub opens_first : (o : Outline) (used rest : List Token) → Opens o used → o.empty ≡ false → begins o.first (used ++ rest) ≡ true
+opens_first o [] rest opens some = neither opens some
+opens_first o (token ∷ used) rest opens some = opens
+
 -- a place in a list, counted on from a kind, is one of as many kinds in a row
 pub among_row : {X : Type 0} (p : X → Bool) (xs : List X) (k : ℕ) → list_any p xs ≡ true → among (range_with_len k (length xs)) (k + position_or_len p xs) ≡ true
 among_row p [] k h = absurd (false≢true h)

@@ -1,5 +1,7 @@
 pub mod Chains
 pub mod KindLaws
 pub mod RightBoth
+pub mod RightChoices
+pub mod RightMany
 pub mod RightTokens
 pub mod Spellings
