@@ -1,5 +1,10 @@
 pub mod ConstructReaders
+pub mod Depths
 pub mod ExpressionReaders
+pub mod Parses
 pub mod PatternReaders
 pub mod QueryReaders
 pub mod RegexReaders
+pub mod RegexViews
+pub mod Results
+pub mod Sources

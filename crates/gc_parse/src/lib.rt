@@ -1,2 +1,14 @@
-//! The parser of query files.
+//! The parser of query files: the one tree of a token list, or the token from which on there is none.
+//! Others rely on `parse` and `parse_regex` alone. This crate knows the grammar, and no text and no
+//! graph.
 #![tactic(auto)]
+
+mod depth;
+mod numbering;
+mod part;
+mod refusal;
+mod regex_part;
+mod regexes;
+mod source;
+
+pub use refusal::ParseRefusal;

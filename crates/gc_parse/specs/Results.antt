@@ -1,0 +1,39 @@
+-- What the parser's functions give, beside what the readers of the grammar give.
+use Rattle.std.specs.Prelude.{◌≡◌, ℕ, ◌+◌, List, [], ◌∷◌, Option, Some, None, Result, Ok, Err, drop, map}
+use Rattle.gc_lex.specs.declared.token.Token.{Token}
+use Rattle.gc_ast.specs.Trees.{Tree, AQuery}
+use Rattle.gc_grammar.specs.Words.{Point}
+use Rattle.gc_grammar.specs.Readers.{Reading, Got, Stuck, first_means, behind}
+use Rattle.gc_parse.specs.declared.refusal.Refusal.{Refusal}
+use Rattle.gc_parse.specs.declared.refusal.Refusal.TheVariants as refusal
+use Rattle.gc_parse.specs.declared.refusal.ParseRefusal.{ParseRefusal}
+use Rattle.gc_parse.specs.declared.refusal.ParseRefusal.TheVariants as whole
+
+-- a point without EXISTS queries before it
+abbrev pub bare : ℕ → Point
+bare at = record { token = at; exists = [] }
+
+-- what a token means was taken, with the place behind it
+abbrev pub Takes : {T A : Type 0} → (Token → Option A) → (T → A) → List Token → ℕ → Result (T × ℕ) Refusal → Type 0
+Takes means view tokens at (Ok taken) =
+    (first_means means (drop at tokens) ≡ Some (view taken.0)) × (taken.1 ≡ at + 1) × (behind (drop at tokens) ≡ drop taken.1 tokens)
+Takes means view tokens at (Err (refusal.Syntax k)) = (k ≡ at) × (first_means means (drop at tokens) ≡ None)
+Takes means view tokens at (Err refusal.Memory) = Unit {0}
+
+-- the value and the place behind it are those of a reading, or so is the refusal
+abbrev pub Gives : {T A : Type 0} → (T → A) → List Token → Result (T × ℕ) Refusal → Reading A → Type 0
+Gives view tokens (Ok given) reading = reading ≡ Got (view given.0) (bare given.1) (drop given.1 tokens)
+Gives view tokens (Err (refusal.Syntax k)) reading = reading ≡ Stuck k
+Gives view tokens (Err refusal.Memory) reading = Unit {0}
+
+-- a token that means nothing more was passed
+abbrev pub Passes : (Token → Option (Unit {0})) → List Token → ℕ → Result ℕ Refusal → Type 0
+Passes means tokens at (Ok next) =
+    (first_means means (drop at tokens) ≡ Some tt) × (next ≡ at + 1) × (behind (drop at tokens) ≡ drop next tokens)
+Passes means tokens at (Err (refusal.Syntax k)) = (k ≡ at) × (first_means means (drop at tokens) ≡ None)
+Passes means tokens at (Err refusal.Memory) = ⊥
+
+-- the refusal of a production as that of a whole file
+abbrev pub as_parse_refusal : Refusal → ParseRefusal
+as_parse_refusal (refusal.Syntax k) = whole.Syntax k
+as_parse_refusal refusal.Memory = whole.Memory

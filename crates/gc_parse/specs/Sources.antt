@@ -1,0 +1,28 @@
+-- What the parser reads from: the tokens of a file, and the number of each name among them.
+use Rattle.std.specs.Prelude.{◌≡◌, ℕ, ◌+◌, false, List, [], ◌∷◌, ◌++◌}
+use Rattle.gc_base.specs.declared.place.Sym.{Sym}
+use Rattle.gc_base.specs.Words.{is_reserved}
+use Rattle.gc_lex.specs.declared.token.Token.{Token}
+use Rattle.gc_lex.specs.declared.token.Token.TheVariants.{Word}
+use Rattle.gc_expr.specs.Views.{Names, name_of}
+
+-- the tokens, and the names by number
+pub record Tokens : Type 0 where
+  pub tokens : List Token
+  pub names : Names
+
+-- a number is that of the token, where this is a name
+abbrev pub IsNumberOf : Names → Token → Sym → Type 0
+IsNumberOf names (Word a) sym = is_reserved a ≡ false → name_of names sym ≡ a
+IsNumberOf names token sym = Unit {0}
+
+-- the same one by one
+abbrev pub AreNumbersOf : Names → List Token → List Sym → Type 0
+AreNumbersOf names [] [] = Unit {0}
+AreNumbersOf names [] (sym ∷ syms) = ⊥
+AreNumbersOf names (token ∷ ts) [] = ⊥
+AreNumbersOf names (token ∷ ts) (sym ∷ syms) = IsNumberOf names token sym × AreNumbersOf names ts syms
+
+-- a table with names behind those of another
+abbrev pub Extends : Names → Names → Type 0
+Extends names others = (more : Names) × (others ≡ names ++ more)
