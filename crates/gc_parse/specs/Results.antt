@@ -2,6 +2,9 @@
 use Rattle.std.specs.Prelude.{◌≡◌, ℕ, ◌+◌, List, [], ◌∷◌, Option, Some, None, Result, Ok, Err, drop, map}
 use Rattle.gc_lex.specs.declared.token.Token.{Token}
 use Rattle.gc_ast.specs.Trees.{Tree, AQuery}
+use Rattle.gc_expr.specs.Views.{Names}
+use Rattle.gc_ast.specs.declared.query.Query.{Query}
+use Rattle.gc_ast.specs.QueryViews.{query_tree}
 use Rattle.gc_grammar.specs.Words.{Point}
 use Rattle.gc_grammar.specs.Readers.{Reading, Got, Stuck, first_means, behind}
 use Rattle.gc_parse.specs.declared.refusal.Refusal.{Refusal}
@@ -25,6 +28,20 @@ abbrev pub Gives : {T A : Type 0} → (T → A) → List Token → Result (T × 
 Gives view tokens (Ok given) reading = reading ≡ Got (view given.0) (bare given.1) (drop given.1 tokens)
 Gives view tokens (Err (refusal.Syntax k)) reading = reading ≡ Stuck k
 Gives view tokens (Err refusal.Memory) reading = Unit {0}
+
+-- the queries of the EXISTS before a point, as trees
+abbrev pub queries_view : Names → List Query → List (Tree AQuery)
+queries_view names queries = map (query_tree names) queries
+
+-- a point with EXISTS queries before it
+abbrev pub point : ℕ → List (Tree AQuery) → Point
+point at queries = record { token = at; exists = queries }
+
+-- the same as `Gives` in an expression, where these EXISTS queries stand before the place behind
+abbrev pub GivesWith : {T A : Type 0} → (T → A) → List (Tree AQuery) → List Token → Result (T × ℕ) Refusal → Reading A → Type 0
+GivesWith view queries tokens (Ok given) reading = reading ≡ Got (view given.0) (point given.1 queries) (drop given.1 tokens)
+GivesWith view queries tokens (Err (refusal.Syntax k)) reading = reading ≡ Stuck k
+GivesWith view queries tokens (Err refusal.Memory) reading = Unit {0}
 
 -- a token that means nothing more was passed
 abbrev pub Passes : (Token → Option (Unit {0})) → List Token → ℕ → Result ℕ Refusal → Type 0

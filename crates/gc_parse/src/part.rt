@@ -70,10 +70,10 @@ pub(crate) fn view(source: &Source, at: u32) -> Result<(Part, u32), Refusal>
     ensures { Gives (part_view source.now.names) source.now.tokens result (read_view (bare at) (drop at source.now.tokens)) }
 {
     let at = source.mark(at, Mark::Tilde)?;
-    let (name, next) = source.name(at)?;
-    let (word, _) = source.word(at)?;
+    let ((name, bytes), at) = source.name_with_bytes(at)?;
     let views = one(source.alloc(), name)?;
-    Ok((Part { regex: Regex::view(word), views }, next))
+    let regex = Regex::view(bytes);
+    Ok((Part { regex, views }, at))
 }
 
 // A part any number of times.
@@ -86,7 +86,7 @@ pub(crate) fn starred(alloc: Global, part: Part) -> Result<Part, Memory>
 
 // One of some branches; of one branch the branch itself.
 pub(crate) fn branches(alloc: Global, mut parts: Vec<Part>) -> Result<Part, Memory>
-    ensures { IfOk result (λ part. (names : Names) → part_view names part ≡ chained tree.Alt (parts_view names parts)) }
+    ensures { IfOk result (λ part. (names : Names) → part_view names part ≡ chained tree.Alt (parts_view names parts.items)) }
 {
     if parts.len() == 1 {
         return Ok(parts.swap_remove(0));
@@ -97,7 +97,7 @@ pub(crate) fn branches(alloc: Global, mut parts: Vec<Part>) -> Result<Part, Memo
 
 // Parts one after another; of one part the part itself.
 pub(crate) fn sequence(alloc: Global, mut parts: Vec<Part>) -> Result<Part, Memory>
-    ensures { IfOk result (λ part. (names : Names) → part_view names part ≡ chained tree.Cat (parts_view names parts)) }
+    ensures { IfOk result (λ part. (names : Names) → part_view names part ≡ chained tree.Cat (parts_view names parts.items)) }
 {
     if parts.len() == 1 {
         return Ok(parts.swap_remove(0));
@@ -125,5 +125,7 @@ fn divided(alloc: Global, parts: Vec<Part>) -> Result<(RegexList, Vec<NameAt>), 
 pub(crate) fn one<T: Drop>(alloc: Global, item: T) -> Result<Vec<T>, Memory>
     ensures { IfOk result (λ items. items.items ≡ item ∷ []) }
 {
-    Ok(vec![in alloc; item]?)
+    let mut items = Vec::new(alloc);
+    items.push(item)?;
+    Ok(items)
 }

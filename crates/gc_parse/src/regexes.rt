@@ -52,11 +52,21 @@ fn later_branches(
         if !source.is_at(at, Mark::Bar) {
             return Ok((parts, at));
         }
-        let (part, next) = juxtaposed(source, room, source.mark(at, Mark::Bar)?)?;
+        let (part, next) = later_branch(source, room, at)?;
         parts.push(part)?;
         at = next;
     }
     Ok((parts, at))
+}
+
+// `|` cat
+#[cycle(regex)]
+fn later_branch(source: &Source, room: u64, at: u32) -> Result<(Part, u32), Refusal>
+    requires { 0 < room }
+    ensures { Gives (part_view source.now.names) source.now.tokens result (read_behind (read_mark mark.Bar) (read_cat room (read_regex (room - 1))) (bare at) (drop at source.now.tokens)) }
+{
+    let at = source.mark(at, Mark::Bar)?;
+    juxtaposed(source, room, at)
 }
 
 #[tactic(auto, unfolding(crate::specs::RegexReaders::read_cat))]

@@ -1,4 +1,4 @@
-ghost use Rattle.std.specs.Prelude.{◌≡◌, ◌∷◌, ◌+◌, ◌<◌, ◌^◌, [], drop, true, Some};
+ghost use Rattle.std.specs.Prelude.{◌≡◌, ◌∷◌, ◌+◌, ◌<◌, ◌^◌, [], drop, true, Some, IfOk};
 ghost use Rattle.gc_base.specs.Words.{is_reserved};
 ghost use Rattle.gc_expr.specs.Views.{name_of};
 ghost use Rattle.gc_grammar.specs.Kinds.{among, begins, kind, mark_kind, word_kind, name_kind, number_kind, text_kind};
@@ -128,13 +128,25 @@ impl<'a> Source<'a> {
 
     // Takes a name.
     pub fn name(&self, at: u32) -> Result<(NameAt, u32), Refusal>
-        ensures { Takes means_name (λ x. name_of self.now.names x.sym) self.now.tokens at result }
+        ensures taken { Takes means_name (λ x. name_of self.now.names x.sym) self.now.tokens at result }
+        ensures token { IfOk result (λ taken. taken.0.token ≡ at) }
     {
         if !self.is_name_at(at) {
             return Err(Refusal::Syntax(at));
         }
         let sym = self.syms[at as usize];
         Ok((NameAt { sym, token: at }, at + 1))
+    }
+
+    // Takes a name, with its bytes beside its number.
+    pub fn name_with_bytes(&self, at: u32) -> Result<((NameAt, Name), u32), Refusal>
+        ensures taken { Takes means_name (λ x. x.1) self.now.tokens at result }
+        ensures number { IfOk result (λ taken. name_of self.now.names taken.0.0.sym ≡ taken.0.1) }
+        ensures token { IfOk result (λ taken. taken.0.0.token ≡ at) }
+    {
+        let (name, next) = self.name(at)?;
+        let (bytes, _) = self.word(at)?;
+        Ok(((name, bytes), next))
     }
 }
 

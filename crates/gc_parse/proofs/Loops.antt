@@ -1,0 +1,99 @@
+-- How the reader of any number of values goes on, turn by turn.
+use Rattle.std.proofs.Common.{◌≡◌, refl, ap, sym, ◌∙◌, ℕ, zero, suc, ◌+◌, ◌<◌, ◌-◌, Bool, true, false, if◌then◌else◌, List, [], ◌∷◌, ◌++◌, map, subst, Result, Err}
+use Rattle.gc_lex.specs.declared.token.Token.{Token}
+use Rattle.gc_grammar.specs.Words.{Point}
+use Rattle.gc_grammar.specs.Kinds.{begins}
+use Rattle.gc_grammar.specs.Readers.{Reader, Reading, Got, Stuck, then_read, in_front, read_many}
+use Rattle.gc_parse.specs.declared.refusal.Refusal.{Refusal}
+use Rattle.gc_parse.specs.declared.refusal.Refusal.TheVariants as refusal
+use Rattle.gc_parse.specs.Results.{Gives}
+use native.Mathlib.Omega.{arith}
+
+append_nil : {A : Type 0} (xs : List A) → xs ++ [] ≡ xs
+append_nil [] = refl
+append_nil (x ∷ xs) = ap (λ rest. x ∷ rest) (append_nil xs)
+
+append_all : {A : Type 0} (xs ys zs : List A) → (xs ++ ys) ++ zs ≡ xs ++ (ys ++ zs)
+append_all [] ys zs = refl
+append_all (x ∷ xs) ys zs = ap (λ rest. x ∷ rest) (append_all xs ys zs)
+
+-- values before values before a reading
+front_of_front : {A : Type 0} (xs ys : List A) (r : Reading (List A)) → in_front xs (in_front ys r) ≡ in_front (xs ++ ys) r
+front_of_front xs ys (Got others end rest) = ap (λ all. Got all end rest) (sym (append_all xs ys others))
+front_of_front xs ys (Stuck k) = refl
+
+-- where no further value begins, the values are read
+pub many_stops : {A : Type 0} (kinds : List ℕ) (p : Reader A) (room : ℕ) (front : List A) (start : Point) (ts : List Token)
+    → begins kinds ts ≡ false → in_front front (read_many kinds p room start ts) ≡ Got front start ts
+many_stops kinds p zero front start ts h = ap (λ all. Got all start ts) (append_nil front)
+many_stops kinds p (suc room) front start ts h =
+    ap
+    (λ b. in_front front (if b then then_read (p start ts) (λ a. λ end rest. in_front (a ∷ []) (read_many kinds p room end rest)) else Got [] start ts))
+    h
+    ∙ ap (λ all. Got all start ts) (append_nil front)
+
+-- where the room is used up, they are read too
+pub many_ends : {A : Type 0} (kinds : List ℕ) (p : Reader A) (room : ℕ) (front : List A) (start : Point) (ts : List Token)
+    → room ≡ 0 → in_front front (read_many kinds p room start ts) ≡ Got front start ts
+many_ends kinds p zero front start ts h = ap (λ all. Got all start ts) (append_nil front)
+many_ends kinds p (suc room) front start ts h = absurd (omega (arith, h))
+
+-- a further value goes behind those before it
+pub many_goes_on : {A : Type 0} (kinds : List ℕ) (p : Reader A) (room less : ℕ) (front : List A) (start end : Point) (ts rest : List Token) (a : A)
+    → room ≡ less + 1 → begins kinds ts ≡ true → p start ts ≡ Got a end rest
+    → in_front front (read_many kinds p room start ts) ≡ in_front (front ++ a ∷ []) (read_many kinds p less end rest)
+many_goes_on kinds p zero less front start end ts rest a room_is h got = absurd (omega (arith, room_is))
+many_goes_on kinds p (suc room) less front start end ts rest a room_is h got =
+    ap
+    (λ b. in_front front (if b then then_read (p start ts) (λ a. λ end rest. in_front (a ∷ []) (read_many kinds p room end rest)) else Got [] start ts))
+    h
+    ∙ ap (λ r. in_front front (then_read r (λ a. λ end rest. in_front (a ∷ []) (read_many kinds p room end rest)))) got
+    ∙ front_of_front front (a ∷ []) (read_many kinds p room end rest)
+    ∙ ap (λ n. in_front (front ++ a ∷ []) (read_many kinds p n end rest)) {x = room} {y = less} (omega (arith, room_is))
+
+-- where a further value is not read, none is
+pub many_is_stuck : {A : Type 0} (kinds : List ℕ) (p : Reader A) (room : ℕ) (front : List A) (start : Point) (ts : List Token) (k : ℕ)
+    → 0 < room → begins kinds ts ≡ true → p start ts ≡ Stuck k → in_front front (read_many kinds p room start ts) ≡ Stuck k
+many_is_stuck kinds p zero front start ts k some h stuck = absurd (omega (arith, some))
+many_is_stuck kinds p (suc room) front start ts k some h stuck =
+    ap
+    (λ b. in_front front (if b then then_read (p start ts) (λ a. λ end rest. in_front (a ∷ []) (read_many kinds p room end rest)) else Got [] start ts))
+    h
+    ∙ ap (λ r. in_front front (then_read r (λ a. λ end rest. in_front (a ∷ []) (read_many kinds p room end rest)))) stuck
+
+map_snoc : {T A : Type 0} (view : T → A) (items : List T) (item : T) → map view (items ++ item ∷ []) ≡ map view items ++ view item ∷ []
+map_snoc view [] item = refl
+map_snoc view (x ∷ items) item = ap (λ rest. view x ∷ rest) (map_snoc view items item)
+
+-- a loop that pushes a value each turn: where it stops its values are those of the whole reading
+pub loop_stops : {T A : Type 0} (view : T → A) (kinds : List ℕ) (p : Reader A) (room : ℕ) (items : List T) (start : Point) (ts : List Token) (whole : Reading (List A))
+    → in_front (map view items) (read_many kinds p room start ts) ≡ whole → begins kinds ts ≡ false
+    → whole ≡ Got (map view items) start ts
+loop_stops view kinds p room items start ts whole so_far h = sym so_far ∙ many_stops kinds p room (map view items) start ts h
+
+-- a turn with a value keeps the whole reading
+pub loop_goes_on : {T A : Type 0} (view : T → A) (kinds : List ℕ) (p : Reader A) (room counter : ℕ) (items pushed : List T) (item : T) (start end : Point) (ts rest : List Token) (whole : Reading (List A))
+    → in_front (map view items) (read_many kinds p (room - counter) start ts) ≡ whole → counter < room → begins kinds ts ≡ true
+    → p start ts ≡ Got (view item) end rest → pushed ≡ items ++ item ∷ []
+    → in_front (map view pushed) (read_many kinds p (room - (counter + 1)) end rest) ≡ whole
+loop_goes_on view kinds p room counter items pushed item start end ts rest whole so_far some h got push =
+    ap (λ front. in_front front (read_many kinds p (room - (counter + 1)) end rest)) (ap (map view) push ∙ map_snoc view items item)
+    ∙ sym (many_goes_on kinds p (room - counter) (room - (counter + 1)) (map view items) start end ts rest (view item) (omega (arith, some)) h got)
+    ∙ so_far
+
+-- a turn that is refused is refused as the whole reading is
+pub loop_is_stuck : {T U A : Type 0} (view : T → List A) (other : U → A) (tokens : List Token) (kinds : List ℕ) (p : Reader A) (room counter : ℕ) (front : List A) (start : Point) (ts : List Token) (whole : Reading (List A)) (refused : Refusal)
+    → in_front front (read_many kinds p (room - counter) start ts) ≡ whole → counter < room → begins kinds ts ≡ true
+    → Gives other tokens (Err refused) (p start ts) → Gives view tokens (Err refused) whole
+loop_is_stuck view other tokens kinds p room counter front start ts whole (refusal.Syntax k) so_far some h stuck =
+    sym so_far ∙ many_is_stuck kinds p (room - counter) front start ts k (omega (arith, some)) h stuck
+loop_is_stuck view other tokens kinds p room counter front start ts whole refusal.Memory so_far some h stuck = tt
+
+-- the same of a loop that ends with the refusal of a call
+pub loop_exits : {T U A : Type 0} (view : T → List A) (other : U → A) (tokens : List Token) (kinds : List ℕ) (p : Reader A) (room counter : ℕ) (front : List A) (start : Point) (ts : List Token) (whole : Reading (List A)) (refused : Refusal) (result : Result (T × ℕ) Refusal)
+    → (x : Refusal) × (result ≡ Err x) × (x ≡ refused)
+    → in_front front (read_many kinds p (room - counter) start ts) ≡ whole → counter < room → begins kinds ts ≡ true
+    → Gives other tokens (Err refused) (p start ts) → Gives view tokens result whole
+loop_exits view other tokens kinds p room counter front start ts whole refused result exit so_far some h stuck =
+    subst (λ r. Gives view tokens r whole) (sym (exit.1 ∙ ap (Err) exit.2))
+    (loop_is_stuck view other tokens kinds p room counter front start ts whole refused so_far some h stuck)
