@@ -57,6 +57,11 @@ kept_apart kinds (other ∷ others) k c h =
     (not_true (among kinds other) (and_left (not (among kinds other)) (apart kinds others) c))
     (kept_apart kinds others k (and_right (not (among kinds other)) (apart kinds others) c)) h
 
+-- no kinds are apart from any
+pub apart_none : (others : List ℕ) → apart [] others ≡ true
+apart_none [] = refl
+apart_none (other ∷ others) = apart_none others
+
 -- what begins with none of some kinds begins with none of those that they cover
 pub not_covered : (kinds others : List ℕ) (ts : List Token) → covers kinds others ≡ true → begins kinds ts ≡ false → begins others ts ≡ false
 not_covered kinds others [] c h = refl
