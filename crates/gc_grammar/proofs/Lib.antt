@@ -1,8 +1,10 @@
 pub mod Chains
+pub mod Forks
 pub mod KindLaws
 pub mod RightBoth
 pub mod RightBrackets
 pub mod RightChoices
+pub mod RightFork
 pub mod RightMany
 pub mod RightTokens
 pub mod Spellings
