@@ -8,3 +8,4 @@ pub mod RightFork
 pub mod RightMany
 pub mod RightTokens
 pub mod Spellings
+pub mod Taken
