@@ -14,10 +14,6 @@ matched [] ts = 0
 matched (kinds ∷ others) [] = 0
 matched (kinds ∷ others) (token ∷ ts) = if among kinds (kind token) then suc (matched others ts) else 0
 
-and_false : (b : Bool) → (b && false) ≡ false
-and_false true = refl
-and_false false = refl
-
 -- whether a list begins with one token of some kinds
 begins_one : (last : List ℕ) (ts us : List Token) → Alike ts us → begins_so (last ∷ []) ts ≡ begins_so (last ∷ []) us
 begins_one last [] [] same = refl

@@ -9,3 +9,4 @@ pub mod RightMany
 pub mod RightTokens
 pub mod Spellings
 pub mod Taken
+pub mod Ways
