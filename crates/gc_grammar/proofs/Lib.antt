@@ -9,4 +9,5 @@ pub mod RightMany
 pub mod RightTokens
 pub mod Spellings
 pub mod Taken
+pub mod WayChoices
 pub mod Ways

@@ -1,5 +1,5 @@
 -- The ways of a fork along the beginning of a production, a word of the grammar after another.
-use Rattle.std.proofs.Common.{◌≡◌, refl, sym, ap, ◌∙◌, subst, ℕ, suc, ◌<◌, ◌≤◌, arith, Bool, true, false, ◌&&◌, List, [], ◌∷◌, ◌++◌, append_assoc, length}
+use Rattle.std.proofs.Common.{◌≡◌, ◌+◌, refl, sym, ap, ◌∙◌, subst, ℕ, suc, ◌<◌, ◌≤◌, arith, Bool, true, false, ◌&&◌, List, [], ◌∷◌, ◌++◌, append_assoc, length}
 use Rattle.std.proofs.lemmas.Bool.{false≢true}
 use Rattle.gc_lex.specs.declared.token.Token.{Token}
 use Rattle.gc_grammar.specs.Words.{Point, Lang, ◌⋅◌, ◌⇒◌, ◌▸◌, ◌◂◌}
@@ -12,11 +12,11 @@ use Rattle.gc_grammar.proofs.RightFork.{Fronts, Way}
 use Rattle.gc_grammar.proofs.Taken.{Takes, IsToken, Taken}
 
 -- a reader that is right goes on
-firm_right : {j J : ℕ} {A : Type 0} {L M : Lang A} {p q : Reader A} {o : Outline} → Right j J L M p q o → Firm j [] p
+pub firm_right : {j J : ℕ} {A : Type 0} {L M : Lang A} {p q : Reader A} {o : Outline} → Right j J L M p q o → Firm j [] p
 firm_right {J = J} {L = L} {p = p} {q = q} right start ts short = sound_reaches J L q start ts (p start ts) (right.sound start ts short)
 
 -- what does not begin with a first token of some kinds does not begin so
-begins_so_not : (kinds : List ℕ) (others : List (List ℕ)) (ts : List Token) → begins kinds ts ≡ false → begins_so (kinds ∷ others) ts ≡ false
+pub begins_so_not : (kinds : List ℕ) (others : List (List ℕ)) (ts : List Token) → begins kinds ts ≡ false → begins_so (kinds ∷ others) ts ≡ false
 begins_so_not kinds others [] h = refl
 begins_so_not kinds others (token ∷ ts) h = rw h refl
 
@@ -59,7 +59,7 @@ fronts_both sets does L M fronts start end ts other v l =
     ap (λ us. begins_so sets (us ++ other)) l.whole ∙ ap (begins_so sets) (append_assoc l.early l.late other)
     ∙ fronts start l.between l.early (l.late ++ other) v.0 l.before
 
-firm_then : {A B : Type 0} (j : ℕ) (q : Reader B) (a : A) → Firm j [] q → Firm {A = A × B} j [] (λ between late. then_read (q between late) λ b. λ end rest. Got (a, b) end rest)
+pub firm_then : {A B : Type 0} (j : ℕ) (q : Reader B) (a : A) → Firm j [] q → Firm {A = A × B} j [] (λ between late. then_read (q between late) λ b. λ end rest. Got (a, b) end rest)
 firm_then j q a firm between late short = reaches_made [] between late (λ b. (a, b)) (q between late) (firm between late short)
 
 -- the first of two, behind which another comes
@@ -82,16 +82,20 @@ pub way_before : {j J : ℕ} {init : List (List ℕ)} {last : List ℕ} {does : 
 way_before way right = way_made (way_both way right)
 
 -- behind a token of a fork, what comes past the rest of it
+pub reaches_behind : {A : Type 0} (kinds : List ℕ) (init : List (List ℕ)) (start between : Point) (token : Token) (ts late : List Token) → ts ≡ token ∷ late
+    → between.token ≡ start.token + 1 → (reading : Reading A) → Reaches init between late reading → Reaches (kinds ∷ init) start ts reading
+reaches_behind kinds init start between token ts late whole place reading reaches =
+    let fewer : length ts ≡ suc (length late) = ap length whole in
+    let most : matched (kinds ∷ init) ts ≤ suc (matched init late) =
+    subst (λ us. matched (kinds ∷ init) us ≤ suc (matched init late)) (sym whole) (matched_one kinds init token late) in
+    reaches_later (kinds ∷ init) init start between ts late reading (omega (arith, place, most)) (omega (arith, fewer)) reaches
+
 take_reaches : {A B : Type 0} (j : ℕ) (kinds : List ℕ) (init : List (List ℕ)) (q : Reader B) (start : Point) (ts : List Token) → length ts < j → Firm j init q
     → (reading : Reading A) → Takes kinds start ts reading
     → Reaches {A = A × B} (kinds ∷ init) start ts (then_read reading λ a. λ between late. then_read (q between late) λ b. λ end rest. Got (a, b) end rest)
 take_reaches j kinds init q start ts short firm (Got a between late) takes =
-    let place = takes.2 in
     let fewer : length ts ≡ suc (length late) = ap length takes.1 in
-    let most : matched (kinds ∷ init) ts ≤ suc (matched init late) =
-    subst (λ us. matched (kinds ∷ init) us ≤ suc (matched init late)) (sym takes.1) (matched_one kinds init takes.0 late) in
-    reaches_later (kinds ∷ init) init start between ts late (then_read (q between late) λ b. λ end rest. Got (a, b) end rest)
-    (omega (arith, place, most)) (omega (arith, fewer))
+    reaches_behind kinds init start between takes.0 ts late takes.1 takes.2 (then_read (q between late) λ b. λ end rest. Got (a, b) end rest)
     (reaches_made init between late (λ b. (a, b)) (q between late) (firm between late (omega (arith, short, fewer))))
 take_reaches j kinds init q start ts short firm (Stuck place) takes =
     let none = matched_none kinds init ts takes.0 in
@@ -139,6 +143,64 @@ way_token_behind c token right way = way_made (way_token c token right way)
 
 not_does : {A : Type 0} → false ≡ true → A
 not_does is = absurd (false≢true is)
+
+-- behind two tokens of a fork
+second_reaches : {A B C : Type 0} (j : ℕ) (kinds : List ℕ) (init : List (List ℕ)) (q : Reader C) (start : Point) (ts : List Token) (a : A) → length ts < j → Firm j init q
+    → (reading : Reading B) → Takes kinds start ts reading
+    → Reaches {A = B × C} (kinds ∷ init) start ts
+    (then_read (then_read {A = A × B} (then_read reading λ b. λ end rest. Got (a, b) end rest) λ v. λ end rest. Got v.1 end rest)
+    λ b. λ between late. then_read (q between late) λ c. λ end rest. Got (b, c) end rest)
+second_reaches j kinds init q start ts a short firm (Got b between late) takes = take_reaches j kinds init q start ts short firm (Got b between late) takes
+second_reaches {B = B} j kinds init q start ts a short firm (Stuck place) takes = take_reaches {A = B} j kinds init q start ts short firm (Stuck place) takes
+
+two_reach : {A B C : Type 0} (j : ℕ) (kinds others : List ℕ) (init : List (List ℕ)) (p : Reader B) (q : Reader C) (start : Point) (ts : List Token) → length ts < j
+    → ((between : Point) (late : List Token) → Takes others between late (p between late)) → Firm j init q
+    → (reading : Reading A) → Takes kinds start ts reading
+    → Reaches {A = B × C} (kinds ∷ others ∷ init) start ts
+    (then_read
+    (then_read {A = A × B} (then_read reading λ a. λ between late. then_read (p between late) λ b. λ end rest. Got (a, b) end rest)
+    λ v. λ end rest. Got v.1 end rest)
+    λ b. λ between late. then_read (q between late) λ c. λ end rest. Got (b, c) end rest)
+two_reach j kinds others init p q start ts short second firm (Got a between late) takes =
+    let fewer : length ts ≡ suc (length late) = ap length takes.1 in
+    reaches_behind kinds (others ∷ init) start between takes.0 ts late takes.1 takes.2 _
+    (second_reaches j others init q between late a (omega (arith, short, fewer)) firm (p between late) (second between late))
+two_reach j kinds others init p q start ts short second firm (Stuck place) takes =
+    let none = matched_none kinds (others ∷ init) ts takes.0 in
+    let at = takes.1 in
+    omega (arith, none, at)
+
+-- two tokens of a fork in one word of the grammar, and then the rest of its way
+pub way_two_tokens : {j J : ℕ} {kinds others : List ℕ} {init : List (List ℕ)} {last : List ℕ} {does : Bool} {A B C : Type 0}
+    {L M : Lang A} {p q : Reader A} {o : Outline} {L' M' : Lang B} {p' q' : Reader B} {o' : Outline} {N K : Lang C} {r : Reader C}
+    → covers kinds o.first ≡ true → covers others o'.first ≡ true
+    → Taken kinds L M p → Right j J L M p q o → Taken others L' M' p' → Right j J L' M' p' q' o' → Way j init last does N K r
+    → Way j (kinds ∷ others ∷ init) last does ((L ▸ L') ⋅ N) ((M ▸ M') ⋅ K) (read_both (read_behind p p') r)
+way_two_tokens {j = j} {kinds = kinds} {others = others} {init = init} {last = last} {does = does} {p = p} {o = o} {p' = p'} {o' = o'} {r = r} c d token right token' right' way = record {
+  fronts = λ start end ts other v l.
+      let two = l.before.spelled in
+      let pair = l.before.value in
+      let one = token.alone start two.between two.early pair.0 two.before in
+      let one' = token'.alone two.between l.between two.late pair.1 two.behind in
+      token_then kinds (others ∷ (init ++ last ∷ [])) does ts two.early (two.late ++ l.late) other
+      (l.whole ∙ ap (λ us. us ++ l.late) two.whole ∙ append_assoc two.early two.late l.late) one
+      (λ is. token_opens kinds o two.early c one (right.opened start two.between two.early pair.0 two.before))
+      (token_then others (init ++ last ∷ []) does (two.late ++ l.late) two.late l.late other refl one'
+      (λ is. token_opens others o' two.late d one' (right'.opened two.between l.between two.late pair.1 two.behind))
+      (way.fronts l.between end l.late other v.1 l.behind));
+  fronts_by = λ start end ts other v m.
+      let two = m.before.spelled in
+      let pair = m.before.value in
+      let one = token.alone_by start two.between two.early pair.0 two.before in
+      let one' = token'.alone_by two.between m.between two.late pair.1 two.behind in
+      token_then kinds (others ∷ (init ++ last ∷ [])) does ts two.early (two.late ++ m.late) other
+      (m.whole ∙ ap (λ us. us ++ m.late) two.whole ∙ append_assoc two.early two.late m.late) one
+      (λ is. token_opens kinds o two.early c one (right.opened_by start two.between two.early pair.0 two.before))
+      (token_then others (init ++ last ∷ []) does (two.late ++ m.late) two.late m.late other refl one'
+      (λ is. token_opens others o' two.late d one' (right'.opened_by two.between m.between two.late pair.1 two.behind))
+      (way.fronts_by m.between end m.late other v.1 m.behind));
+  firm = λ start ts short. two_reach j kinds others init p' r start ts short token'.taken way.firm (p start ts) (token.taken start ts);
+}
 
 -- some token, of a fork or not, and then the other way
 pub way_any_token : {j : ℕ} {kinds : List ℕ} {init : List (List ℕ)} {last : List ℕ} {A B : Type 0} {L M : Lang A} {p : Reader A} {L' M' : Lang B} {p' : Reader B}
