@@ -14,9 +14,9 @@ use Rattle.gc_grammar.proofs.Forks.{matched, Reaches, Firm, begins_so_alike}
 abbrev pub Fronts : {A : Type 0} → List (List ℕ) → Bool → Lang A → Type 0
 Fronts {A = A} sets does L = (start end : Point) (ts other : List Token) (a : A) → L start ts a end → begins_so sets (ts ++ other) ≡ does
 
--- one way of a fork: its words begin with all these tokens or none does, and its reader comes past
--- those before the last
-pub record Way {A : Type 0} (j : ℕ) (init : List (List ℕ)) (last : List ℕ) (does : Bool) (L M : Lang A) (p : Reader A) : Type 0 where
+-- one way of a fork, at the rooms of its laws: its words begin with all these tokens or none does, and
+-- its reader comes past those before the last
+pub record Way {A : Type 0} (j J : ℕ) (init : List (List ℕ)) (last : List ℕ) (does : Bool) (L M : Lang A) (p : Reader A) : Type 0 where
   pub fronts : Fronts (init ++ last ∷ []) does L
   pub fronts_by : Fronts (init ++ last ∷ []) does M
   pub firm : Firm j init p
@@ -71,7 +71,7 @@ fork_second room L M p q init last start ts chosen fronts (Stuck place) most ref
 
 -- the fork gives what the chosen reader does
 fork_sound : {j J : ℕ} {A : Type 0} {L M : Lang A} {p q : Reader A} {o : Outline} {L' M' : Lang A} {p' q' : Reader A} {o' : Outline} (init : List (List ℕ)) (last : List ℕ)
-    → Way j init last true L M p → Way j init last false L' M' p' → Right j J L M p q o → Right j J L' M' p' q' o'
+    → Way j J init last true L M p → Way j J init last false L' M' p' → Right j J L M p q o → Right j J L' M' p' q' o'
     → (start : Point) (ts : List Token) → length ts < j → (b : Bool) → begins_so (init ++ last ∷ []) ts ≡ b
     → Sound J (L ∣ L') (read_fork (init ++ last ∷ []) q q') start ts (if b then p start ts else p' start ts)
 fork_sound {J = J} {L = L} {p = p} {q = q} {L' = L'} {p' = p'} {q' = q'} init last way way' first second start ts short true chosen =
@@ -80,7 +80,7 @@ fork_sound {J = J} {L = L} {p = p} {q = q} {L' = L'} {p' = p'} {q' = q'} init la
     fork_second J L L' q q' init last start ts chosen way'.fronts (p' start ts) (way'.firm start ts short) (second.sound start ts short)
 
 fork_complete : {j J : ℕ} {A : Type 0} {L M : Lang A} {p q : Reader A} {o : Outline} {L' M' : Lang A} {p' q' : Reader A} {o' : Outline} (init : List (List ℕ)) (last : List ℕ)
-    → Way j init last true L M p → Way j init last false L' M' p' → Right j J L M p q o → Right j J L' M' p' q' o'
+    → Way j J init last true L M p → Way j J init last false L' M' p' → Right j J L M p q o → Right j J L' M' p' q' o'
     → (start end : Point) (used rest : List Token) (a : A) → (M ∣ M') start used a end → length (used ++ rest) < j
     → begins o.more rest ≡ false → begins o'.more rest ≡ false
     → read_fork (init ++ last ∷ []) p p' start (used ++ rest) ≡ Got a end rest
@@ -91,7 +91,7 @@ fork_complete init last way way' first second start end used rest a (that m) sho
 
 -- one of two, by several tokens, which choose the first
 pub right_fork : {j J : ℕ} {A : Type 0} {L M : Lang A} {p q : Reader A} {o : Outline} {L' M' : Lang A} {p' q' : Reader A} {o' : Outline} (init : List (List ℕ)) (last : List ℕ)
-    → Way j init last true L M p → Way j init last false L' M' p' → Right j J L M p q o → Right j J L' M' p' q' o'
+    → Way j J init last true L M p → Way j J init last false L' M' p' → Right j J L M p q o → Right j J L' M' p' q' o'
     → Right j J (L ∣ L') (M ∣ M') (read_fork (init ++ last ∷ []) p p') (read_fork (init ++ last ∷ []) q q') (either_of o o')
 right_fork {L = L} {M = M} {o = o} {L' = L'} {M' = M'} {o' = o'} init last way way' first second = record {
   sound = λ start ts short. fork_sound init last way way' first second start ts short (begins_so (init ++ last ∷ []) ts) refl;
@@ -120,7 +120,7 @@ swapped_sound room L M q start ts (Stuck place) refused = refused
 
 -- the same, where they choose the second
 pub right_fork_second : {j J : ℕ} {A : Type 0} {L M : Lang A} {p q : Reader A} {o : Outline} {L' M' : Lang A} {p' q' : Reader A} {o' : Outline} (init : List (List ℕ)) (last : List ℕ)
-    → Way j init last false L M p → Way j init last true L' M' p' → Right j J L M p q o → Right j J L' M' p' q' o'
+    → Way j J init last false L M p → Way j J init last true L' M' p' → Right j J L M p q o → Right j J L' M' p' q' o'
     → Right j J (L ∣ L') (M ∣ M') (read_fork (init ++ last ∷ []) p' p) (read_fork (init ++ last ∷ []) q' q) (either_of o o')
 right_fork_second {J = J} {L = L} {M = M} {p = p} {q = q} {o = o} {L' = L'} {M' = M'} {p' = p'} {q' = q'} {o' = o'} init last way way' first second = record {
   sound = λ start ts short.

@@ -34,7 +34,7 @@ either_first choice kinds init start ts r s c first second false chosen = other_
 
 pub way_either : {j J : ℕ} {kinds : List ℕ} {init : List (List ℕ)} {last : List ℕ} {A : Type 0} {L M : Lang A} {p : Reader A} {L' M' : Lang A} {p' q' : Reader A} {o' : Outline}
     (choice : List ℕ) → covers choice kinds ≡ true → apart kinds o'.first ≡ true → o'.empty ≡ false
-    → Way j (kinds ∷ init) last false L M p → Right j J L' M' p' q' o' → Way j (kinds ∷ init) last false (L ∣ L') (M ∣ M') (read_either choice p p')
+    → Way j J (kinds ∷ init) last false L M p → Right j J L' M' p' q' o' → Way j J (kinds ∷ init) last false (L ∣ L') (M ∣ M') (read_either choice p p')
 way_either {kinds = kinds} {init = init} {last = last} {L = L} {M = M} {p = p} {L' = L'} {M' = M'} {p' = p'} {o' = o'} choice c d some way right = record {
   fronts = fronts_either (kinds ∷ (init ++ last ∷ [])) false L L' way.fronts (fronts_apart kinds (init ++ last ∷ []) L' o' d some right.opened);
   fronts_by = fronts_either (kinds ∷ (init ++ last ∷ [])) false M M' way.fronts_by (fronts_apart kinds (init ++ last ∷ []) M' o' d some right.opened_by);
@@ -59,7 +59,7 @@ either_second choice kinds init start ts r s c first second false chosen = secon
 
 pub way_either_second : {j J : ℕ} {kinds : List ℕ} {init : List (List ℕ)} {last : List ℕ} {A : Type 0} {L M : Lang A} {p q : Reader A} {o : Outline} {L' M' : Lang A} {p' : Reader A}
     (choice : List ℕ) → apart choice kinds ≡ true → apart kinds o.first ≡ true → o.empty ≡ false
-    → Right j J L M p q o → Way j (kinds ∷ init) last false L' M' p' → Way j (kinds ∷ init) last false (L ∣ L') (M ∣ M') (read_either choice p p')
+    → Right j J L M p q o → Way j J (kinds ∷ init) last false L' M' p' → Way j J (kinds ∷ init) last false (L ∣ L') (M ∣ M') (read_either choice p p')
 way_either_second {kinds = kinds} {init = init} {last = last} {L = L} {M = M} {p = p} {o = o} {L' = L'} {M' = M'} {p' = p'} choice c d some right way = record {
   fronts = fronts_either (kinds ∷ (init ++ last ∷ [])) false L L' (fronts_apart kinds (init ++ last ∷ []) L o d some right.opened) way.fronts;
   fronts_by = fronts_either (kinds ∷ (init ++ last ∷ [])) false M M' (fronts_apart kinds (init ++ last ∷ []) M o d some right.opened_by) way.fronts_by;
@@ -73,8 +73,8 @@ fork_reaches : {A : Type 0} (init : List (List ℕ)) (start : Point) (ts : List 
 fork_reaches init start ts r s first second true = first
 fork_reaches init start ts r s first second false = second
 
-pub way_fork : {j : ℕ} {init : List (List ℕ)} {last : List ℕ} {does : Bool} {A : Type 0} {L M : Lang A} {p : Reader A} {L' M' : Lang A} {p' : Reader A} (choice : List (List ℕ))
-    → Way j init last does L M p → Way j init last does L' M' p' → Way j init last does (L ∣ L') (M ∣ M') (read_fork choice p p')
+pub way_fork : {j J : ℕ} {init : List (List ℕ)} {last : List ℕ} {does : Bool} {A : Type 0} {L M : Lang A} {p : Reader A} {L' M' : Lang A} {p' : Reader A} (choice : List (List ℕ))
+    → Way j J init last does L M p → Way j J init last does L' M' p' → Way j J init last does (L ∣ L') (M ∣ M') (read_fork choice p p')
 way_fork {init = init} {last = last} {does = does} {L = L} {M = M} {p = p} {L' = L'} {M' = M'} {p' = p'} choice way way' = record {
   fronts = fronts_either (init ++ last ∷ []) does L L' way.fronts way'.fronts;
   fronts_by = fronts_either (init ++ last ∷ []) does M M' way.fronts_by way'.fronts_by;
@@ -124,8 +124,8 @@ fronts_many {A = A} {B = B} sets L M first second start end ts other v l =
 -- any number of what may begin with a token of the fork, before what does not
 pub way_many : {j J : ℕ} {kinds : List ℕ} {init : List (List ℕ)} {last : List ℕ} {A B : Type 0} {L M : Lang A} {p : Reader A} {L' M' : Lang B} {p' q' : Reader B} {o' : Outline}
     (choice : List ℕ) → covers choice kinds ≡ true → apart kinds o'.first ≡ true → o'.empty ≡ false
-    → Way j (kinds ∷ init) last false L M p → Right j J L' M' p' q' o'
-    → Way j (kinds ∷ init) last false (many L ⋅ L') (many M ⋅ M') (read_both (read_many choice p j) p')
+    → Way j J (kinds ∷ init) last false L M p → Right j J L' M' p' q' o'
+    → Way j J (kinds ∷ init) last false (many L ⋅ L') (many M ⋅ M') (read_both (read_many choice p j) p')
 way_many {j = j} {kinds = kinds} {init = init} {last = last} {L = L} {M = M} {p = p} {L' = L'} {M' = M'} {p' = p'} {o' = o'} choice c d some way right = record {
   fronts = fronts_many (kinds ∷ (init ++ last ∷ [])) L L' way.fronts (fronts_apart kinds (init ++ last ∷ []) L' o' d some right.opened);
   fronts_by = fronts_many (kinds ∷ (init ++ last ∷ [])) M M' way.fronts_by (fronts_apart kinds (init ++ last ∷ []) M' o' d some right.opened_by);

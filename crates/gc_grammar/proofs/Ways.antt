@@ -2,14 +2,16 @@
 use Rattle.std.proofs.Common.{◌≡◌, ◌+◌, refl, sym, ap, ◌∙◌, subst, ℕ, suc, ◌<◌, ◌≤◌, arith, Bool, true, false, ◌&&◌, List, [], ◌∷◌, ◌++◌, append_assoc, length}
 use Rattle.std.proofs.lemmas.Bool.{false≢true}
 use Rattle.gc_lex.specs.declared.token.Token.{Token}
-use Rattle.gc_grammar.specs.Words.{Point, Lang, ◌⋅◌, ◌⇒◌, ◌▸◌, ◌◂◌}
-use Rattle.gc_grammar.specs.Kinds.{kind, among, begins, begins_so, covers, apart}
-use Rattle.gc_grammar.specs.Readers.{Reader, Reading, Got, Stuck, then_read, read_both, read_made, read_behind, read_before}
-use Rattle.gc_grammar.specs.Right.{Right, Outline, Opens}
+use Rattle.gc_lex.specs.declared.token.Mark.{Mark}
+use Rattle.gc_grammar.specs.Words.{mark, Point, Lang, ◌⋅◌, ◌⇒◌, ◌▸◌, ◌◂◌}
+use Rattle.gc_grammar.specs.Kinds.{mark_kind, kind, among, begins, begins_so, covers, apart}
+use Rattle.gc_grammar.specs.Readers.{Reader, read_mark, Reading, Got, Stuck, then_read, read_both, read_made, read_behind, read_before}
+use Rattle.gc_grammar.specs.Right.{Right, Outline, Opens, one_of}
 use Rattle.gc_grammar.proofs.KindLaws.{and_false, neither, covered, opens_apart}
+use Rattle.gc_grammar.proofs.RightTokens.{right_mark}
 use Rattle.gc_grammar.proofs.Forks.{matched, matched_none, matched_one, Reaches, Firm, sound_reaches, reaches_made, reaches_later, reaches_then}
 use Rattle.gc_grammar.proofs.RightFork.{Fronts, Way}
-use Rattle.gc_grammar.proofs.Taken.{Takes, IsToken, Taken}
+use Rattle.gc_grammar.proofs.Taken.{Takes, IsToken, Taken, taken_mark}
 
 -- a reader that is right goes on
 pub firm_right : {j J : ℕ} {A : Type 0} {L M : Lang A} {p q : Reader A} {o : Outline} → Right j J L M p q o → Firm j [] p
@@ -26,7 +28,7 @@ opens_so o last (token ∷ ts) other opens some c = rw (covered last o.first (ki
 
 -- at the last token of a fork: its way
 pub way_last : {j J : ℕ} {A : Type 0} {L M : Lang A} {p q : Reader A} {o : Outline} {last : List ℕ}
-    → covers last o.first ≡ true → o.empty ≡ false → Right j J L M p q o → Way j [] last true L M p
+    → covers last o.first ≡ true → o.empty ≡ false → Right j J L M p q o → Way j J [] last true L M p
 way_last {o = o} {last = last} c some right = record {
   fronts = λ start end ts other a l. opens_so o last ts other (right.opened start end ts a l) some c;
   fronts_by = λ start end ts other a m. opens_so o last ts other (right.opened_by start end ts a m) some c;
@@ -35,7 +37,7 @@ way_last {o = o} {last = last} c some right = record {
 
 -- at the last token of a fork: the other way
 pub way_not_last : {j J : ℕ} {A : Type 0} {L M : Lang A} {p q : Reader A} {o : Outline} {last : List ℕ}
-    → apart last o.first ≡ true → o.empty ≡ false → Right j J L M p q o → Way j [] last false L M p
+    → apart last o.first ≡ true → o.empty ≡ false → Right j J L M p q o → Way j J [] last false L M p
 way_not_last {o = o} {last = last} c some right = record {
   fronts = λ start end ts other a l.
       begins_so_not last [] (ts ++ other) (opens_apart o last ts other (right.opened start end ts a l) some c);
@@ -45,8 +47,8 @@ way_not_last {o = o} {last = last} c some right = record {
 }
 
 -- with the value that its value makes
-pub way_made : {j : ℕ} {init : List (List ℕ)} {last : List ℕ} {does : Bool} {A B : Type 0} {L M : Lang A} {p : Reader A} {make : ℕ → A → B}
-    → Way j init last does L M p → Way j init last does (L ⇒ make) (M ⇒ make) (read_made p make)
+pub way_made : {j J : ℕ} {init : List (List ℕ)} {last : List ℕ} {does : Bool} {A B : Type 0} {L M : Lang A} {p : Reader A} {make : ℕ → A → B}
+    → Way j J init last does L M p → Way j J init last does (L ⇒ make) (M ⇒ make) (read_made p make)
 way_made {init = init} {p = p} {make = make} way = record {
   fronts = λ start end ts other b l. way.fronts start end ts other l.value l.spelled;
   fronts_by = λ start end ts other b m. way.fronts_by start end ts other m.value m.spelled;
@@ -64,7 +66,7 @@ firm_then j q a firm between late short = reaches_made [] between late (λ b. (a
 
 -- the first of two, behind which another comes
 pub way_both : {j J : ℕ} {init : List (List ℕ)} {last : List ℕ} {does : Bool} {A B : Type 0} {L M : Lang A} {p : Reader A} {L' M' : Lang B} {p' q' : Reader B} {o' : Outline}
-    → Way j init last does L M p → Right j J L' M' p' q' o' → Way j init last does (L ⋅ L') (M ⋅ M') (read_both p p')
+    → Way j J init last does L M p → Right j J L' M' p' q' o' → Way j J init last does (L ⋅ L') (M ⋅ M') (read_both p p')
 way_both {j = j} {init = init} {last = last} {does = does} {L = L} {M = M} {p = p} {L' = L'} {M' = M'} {p' = p'} way right = record {
   fronts = fronts_both (init ++ last ∷ []) does L L' way.fronts;
   fronts_by = fronts_both (init ++ last ∷ []) does M M' way.fronts_by;
@@ -74,11 +76,11 @@ way_both {j = j} {init = init} {last = last} {does = does} {L = L} {M = M} {p = 
 }
 
 pub way_behind : {j J : ℕ} {init : List (List ℕ)} {last : List ℕ} {does : Bool} {A B : Type 0} {L M : Lang A} {p : Reader A} {L' M' : Lang B} {p' q' : Reader B} {o' : Outline}
-    → Way j init last does L M p → Right j J L' M' p' q' o' → Way j init last does (L ▸ L') (M ▸ M') (read_behind p p')
+    → Way j J init last does L M p → Right j J L' M' p' q' o' → Way j J init last does (L ▸ L') (M ▸ M') (read_behind p p')
 way_behind way right = way_made (way_both way right)
 
 pub way_before : {j J : ℕ} {init : List (List ℕ)} {last : List ℕ} {does : Bool} {A B : Type 0} {L M : Lang A} {p : Reader A} {L' M' : Lang B} {p' q' : Reader B} {o' : Outline}
-    → Way j init last does L M p → Right j J L' M' p' q' o' → Way j init last does (L ◂ L') (M ◂ M') (read_before p p')
+    → Way j J init last does L M p → Right j J L' M' p' q' o' → Way j J init last does (L ◂ L') (M ◂ M') (read_before p p')
 way_before way right = way_made (way_both way right)
 
 -- behind a token of a fork, what comes past the rest of it
@@ -90,7 +92,7 @@ reaches_behind kinds init start between token ts late whole place reading reache
     subst (λ us. matched (kinds ∷ init) us ≤ suc (matched init late)) (sym whole) (matched_one kinds init token late) in
     reaches_later (kinds ∷ init) init start between ts late reading (omega (arith, place, most)) (omega (arith, fewer)) reaches
 
-take_reaches : {A B : Type 0} (j : ℕ) (kinds : List ℕ) (init : List (List ℕ)) (q : Reader B) (start : Point) (ts : List Token) → length ts < j → Firm j init q
+take_reaches : {A B : Type 0} (j : ℕ) (kinds : List ℕ) (init : List (List ℕ)) (q : Reader B) (start : Point) (ts : List Token) → length ts < suc j → Firm j init q
     → (reading : Reading A) → Takes kinds start ts reading
     → Reaches {A = A × B} (kinds ∷ init) start ts (then_read reading λ a. λ between late. then_read (q between late) λ b. λ end rest. Got (a, b) end rest)
 take_reaches j kinds init q start ts short firm (Got a between late) takes =
@@ -118,10 +120,13 @@ token_opens : (kinds : List ℕ) (o : Outline) (ts : List Token) → covers kind
 token_opens kinds o ts c token opens =
     ap (begins kinds) token.1 ∙ covered kinds o.first (kind token.0) c (subst (Opens o) token.1 opens)
 
+token_begins : (m : Mark) (ts : List Token) → IsToken ts → Opens (one_of (mark_kind m ∷ [])) ts → begins (mark_kind m ∷ []) ts ≡ true
+token_begins m ts token opens = ap (begins (mark_kind m ∷ [])) token.1 ∙ subst (Opens (one_of (mark_kind m ∷ []))) token.1 opens
+
 -- a token of a fork, and then the rest of its way
 pub way_token : {j J : ℕ} {kinds : List ℕ} {init : List (List ℕ)} {last : List ℕ} {does : Bool} {A B : Type 0} {L M : Lang A} {p q : Reader A} {o : Outline} {L' M' : Lang B} {p' : Reader B}
-    → covers kinds o.first ≡ true → Taken kinds L M p → Right j J L M p q o → Way j init last does L' M' p'
-    → Way j (kinds ∷ init) last does (L ⋅ L') (M ⋅ M') (read_both p p')
+    → covers kinds o.first ≡ true → Taken kinds L M p → Right j J L M p q o → Way j J init last does L' M' p'
+    → Way j J (kinds ∷ init) last does (L ⋅ L') (M ⋅ M') (read_both p p')
 way_token {j = j} {kinds = kinds} {init = init} {last = last} {does = does} {p = p} {o = o} {p' = p'} c token right way = record {
   fronts = λ start end ts other v l.
       let one = token.alone start l.between l.early v.0 l.before in
@@ -133,13 +138,34 @@ way_token {j = j} {kinds = kinds} {init = init} {last = last} {does = does} {p =
       token_then kinds (init ++ last ∷ []) does ts m.early m.late other m.whole one
       (λ is. token_opens kinds o m.early c one (right.opened_by start m.between m.early v.0 m.before))
       (way.fronts_by m.between end m.late other v.1 m.behind);
-  firm = λ start ts short. take_reaches j kinds init p' start ts short way.firm (p start ts) (token.taken start ts);
+  firm = λ start ts short. take_reaches j kinds init p' start ts (omega (arith, short)) way.firm (p start ts) (token.taken start ts);
 }
 
 pub way_token_behind : {j J : ℕ} {kinds : List ℕ} {init : List (List ℕ)} {last : List ℕ} {does : Bool} {A B : Type 0} {L M : Lang A} {p q : Reader A} {o : Outline} {L' M' : Lang B} {p' : Reader B}
-    → covers kinds o.first ≡ true → Taken kinds L M p → Right j J L M p q o → Way j init last does L' M' p'
-    → Way j (kinds ∷ init) last does (L ▸ L') (M ▸ M') (read_behind p p')
+    → covers kinds o.first ≡ true → Taken kinds L M p → Right j J L M p q o → Way j J init last does L' M' p'
+    → Way j J (kinds ∷ init) last does (L ▸ L') (M ▸ M') (read_behind p p')
 way_token_behind c token right way = way_made (way_token c token right way)
+
+-- an opening symbol of a fork, behind which there is one token less
+pub way_opening : {j J : ℕ} {init : List (List ℕ)} {last : List ℕ} {does : Bool} {A : Type 0} {L M : Lang A} {p : Reader A} (m : Mark)
+    → Way j J init last does L M p → Way (suc j) (suc J) ((mark_kind m ∷ []) ∷ init) last does (mark m ▸ L) (mark m ▸ M) (read_behind (read_mark m) p)
+way_opening {j = j} {J = J} {init = init} {last = last} {does = does} {p = p} m way =
+    let kinds = mark_kind m ∷ [] in
+    let token = taken_mark m in
+    let right = right_mark {j = j} {J = J} m in
+    way_made record {
+      fronts = λ start end ts other v l.
+          let one = token.alone start l.between l.early v.0 l.before in
+          token_then kinds (init ++ last ∷ []) does ts l.early l.late other l.whole one
+          (λ is. token_begins m l.early one (right.opened start l.between l.early v.0 l.before))
+          (way.fronts l.between end l.late other v.1 l.behind);
+      fronts_by = λ start end ts other v l.
+          let one = token.alone_by start l.between l.early v.0 l.before in
+          token_then kinds (init ++ last ∷ []) does ts l.early l.late other l.whole one
+          (λ is. token_begins m l.early one (right.opened_by start l.between l.early v.0 l.before))
+          (way.fronts_by l.between end l.late other v.1 l.behind);
+      firm = λ start ts short. take_reaches j kinds init p start ts short way.firm (read_mark m start ts) (token.taken start ts);
+    }
 
 not_does : {A : Type 0} → false ≡ true → A
 not_does is = absurd (false≢true is)
@@ -150,8 +176,8 @@ second_reaches : {A B C : Type 0} (j : ℕ) (kinds : List ℕ) (init : List (Lis
     → Reaches {A = B × C} (kinds ∷ init) start ts
     (then_read (then_read {A = A × B} (then_read reading λ b. λ end rest. Got (a, b) end rest) λ v. λ end rest. Got v.1 end rest)
     λ b. λ between late. then_read (q between late) λ c. λ end rest. Got (b, c) end rest)
-second_reaches j kinds init q start ts a short firm (Got b between late) takes = take_reaches j kinds init q start ts short firm (Got b between late) takes
-second_reaches {B = B} j kinds init q start ts a short firm (Stuck place) takes = take_reaches {A = B} j kinds init q start ts short firm (Stuck place) takes
+second_reaches j kinds init q start ts a short firm (Got b between late) takes = take_reaches j kinds init q start ts (omega (arith, short)) firm (Got b between late) takes
+second_reaches {B = B} j kinds init q start ts a short firm (Stuck place) takes = take_reaches {A = B} j kinds init q start ts (omega (arith, short)) firm (Stuck place) takes
 
 two_reach : {A B C : Type 0} (j : ℕ) (kinds others : List ℕ) (init : List (List ℕ)) (p : Reader B) (q : Reader C) (start : Point) (ts : List Token) → length ts < j
     → ((between : Point) (late : List Token) → Takes others between late (p between late)) → Firm j init q
@@ -174,8 +200,8 @@ two_reach j kinds others init p q start ts short second firm (Stuck place) takes
 pub way_two_tokens : {j J : ℕ} {kinds others : List ℕ} {init : List (List ℕ)} {last : List ℕ} {does : Bool} {A B C : Type 0}
     {L M : Lang A} {p q : Reader A} {o : Outline} {L' M' : Lang B} {p' q' : Reader B} {o' : Outline} {N K : Lang C} {r : Reader C}
     → covers kinds o.first ≡ true → covers others o'.first ≡ true
-    → Taken kinds L M p → Right j J L M p q o → Taken others L' M' p' → Right j J L' M' p' q' o' → Way j init last does N K r
-    → Way j (kinds ∷ others ∷ init) last does ((L ▸ L') ⋅ N) ((M ▸ M') ⋅ K) (read_both (read_behind p p') r)
+    → Taken kinds L M p → Right j J L M p q o → Taken others L' M' p' → Right j J L' M' p' q' o' → Way j J init last does N K r
+    → Way j J (kinds ∷ others ∷ init) last does ((L ▸ L') ⋅ N) ((M ▸ M') ⋅ K) (read_both (read_behind p p') r)
 way_two_tokens {j = j} {kinds = kinds} {others = others} {init = init} {last = last} {does = does} {p = p} {o = o} {p' = p'} {o' = o'} {r = r} c d token right token' right' way = record {
   fronts = λ start end ts other v l.
       let two = l.before.spelled in
@@ -203,8 +229,8 @@ way_two_tokens {j = j} {kinds = kinds} {others = others} {init = init} {last = l
 }
 
 -- some token, of a fork or not, and then the other way
-pub way_any_token : {j : ℕ} {kinds : List ℕ} {init : List (List ℕ)} {last : List ℕ} {A B : Type 0} {L M : Lang A} {p : Reader A} {L' M' : Lang B} {p' : Reader B}
-    → Taken kinds L M p → Way j init last false L' M' p' → Way j (kinds ∷ init) last false (L ⋅ L') (M ⋅ M') (read_both p p')
+pub way_any_token : {j J : ℕ} {kinds : List ℕ} {init : List (List ℕ)} {last : List ℕ} {A B : Type 0} {L M : Lang A} {p : Reader A} {L' M' : Lang B} {p' : Reader B}
+    → Taken kinds L M p → Way j J init last false L' M' p' → Way j J (kinds ∷ init) last false (L ⋅ L') (M ⋅ M') (read_both p p')
 way_any_token {j = j} {kinds = kinds} {init = init} {last = last} {p = p} {p' = p'} token way = record {
   fronts = λ start end ts other v l.
       token_then kinds (init ++ last ∷ []) false ts l.early l.late other l.whole (token.alone start l.between l.early v.0 l.before)
@@ -212,5 +238,5 @@ way_any_token {j = j} {kinds = kinds} {init = init} {last = last} {p = p} {p' = 
   fronts_by = λ start end ts other v m.
       token_then kinds (init ++ last ∷ []) false ts m.early m.late other m.whole (token.alone_by start m.between m.early v.0 m.before)
       not_does (way.fronts_by m.between end m.late other v.1 m.behind);
-  firm = λ start ts short. take_reaches j kinds init p' start ts short way.firm (p start ts) (token.taken start ts);
+  firm = λ start ts short. take_reaches j kinds init p' start ts (omega (arith, short)) way.firm (p start ts) (token.taken start ts);
 }
