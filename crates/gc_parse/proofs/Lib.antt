@@ -1,3 +1,4 @@
 pub mod Loops
 pub mod RegexLemmas
+pub mod RegexRight
 pub mod TokenKinds
