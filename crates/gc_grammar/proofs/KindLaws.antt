@@ -32,7 +32,7 @@ not_true : (b : Bool) → not b ≡ true → b ≡ false
 not_true true h = absurd (false≢true h)
 not_true false h = refl
 
--- both cannot be
+-- a test that is true and false proves anything
 pub neither : {A : Type 0} {b : Bool} → b ≡ true → b ≡ false → A
 neither is is_not = absurd (false≢true (sym is_not ∙ is))
 
