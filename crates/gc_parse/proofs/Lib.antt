@@ -1,4 +1,5 @@
 pub mod Loops
+pub mod Prefixes
 pub mod RegexLemmas
 pub mod RegexRight
 pub mod TokenKinds

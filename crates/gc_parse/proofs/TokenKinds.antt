@@ -12,7 +12,7 @@ use Rattle.gc_lex.specs.declared.token.Mark.TheVariants as mark
 use Rattle.gc_grammar.specs.Kinds.{mark_kind, number_kind, text_kind, name_kind, word_kind, kind, among, begins}
 use Rattle.gc_grammar.specs.Readers.{means_mark, means_the_word, means_word, means_name, first_means, behind}
 use Rattle.gc_base.specs.declared.place.Sym.{Sym}
-use Rattle.gc_expr.specs.Views.{Names, name_of}
+use Rattle.gc_expr.specs.Views.{Names, name_of, found_name}
 use Rattle.gc_parse.specs.Sources.{IsNumberOf, AreNumbersOf}
 use native.Mathlib.Omega.{arith}
 
@@ -227,7 +227,7 @@ name_in_front names (Word w) ts own number h = here (is_reserved w) refl
   where
     here : (b : Bool) → is_reserved w ≡ b → (if b then None else Some w) ≡ Some (name_of names own)
     here true is = absurd (omega (arith, sym (reserved_kind w is) ∙ eqb-true (word_kind w) name_kind (sym (one_kind (word_kind w) name_kind) ∙ h)))
-    here false is = ap Some (sym (number is))
+    here false is = ap Some (sym (ap found_name (number is)))
 name_in_front names (Symbol m) ts own number h = absurd (omega (arith, mark_below m, eqb-true (mark_kind m) name_kind (sym (one_kind (mark_kind m) name_kind) ∙ h)))
 name_in_front names (Number n) ts own number h = absurd (false≢true h)
 name_in_front names (Text t) ts own number h = absurd (false≢true h)

@@ -1,5 +1,5 @@
 -- Brackets that are too deep.
-use Rattle.std.specs.Prelude.{ℕ, ◌+◌, ◌<◌, ◌≤◌, Bool, true, false, List, length, take, Option, Some, None}
+use Rattle.std.specs.Prelude.{ℕ, ◌+◌, ◌<◌, ◌≤◌, Bool, true, false, List, length, take, Option, Some, None, if◌then◌else◌}
 use Rattle.gc_lex.specs.declared.token.Token.{Token}
 use Rattle.gc_lex.specs.declared.token.Token.TheVariants.{Symbol}
 use Rattle.gc_lex.specs.declared.token.Mark.{Mark}
@@ -27,6 +27,10 @@ is_opening token = false
 abbrev pub is_closing : Token → Bool
 is_closing (Symbol mark) = is_closing_mark mark
 is_closing token = false
+
+-- 1 where it is so
+abbrev pub one_if : Bool → ℕ
+one_if is = if is then 1 else 0
 
 -- the opening brackets are more than 64 above the closing ones
 abbrev pub IsTooDeep : List Token → Type 0

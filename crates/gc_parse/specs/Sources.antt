@@ -1,10 +1,10 @@
 -- What the parser reads from: the tokens of a file, and the number of each name among them.
-use Rattle.std.specs.Prelude.{◌≡◌, ℕ, ◌+◌, false, List, [], ◌∷◌, ◌++◌}
+use Rattle.std.specs.Prelude.{◌≡◌, ℕ, ◌+◌, false, List, [], ◌∷◌, ◌++◌, Some, slice_get}
 use Rattle.gc_base.specs.declared.place.Sym.{Sym}
 use Rattle.gc_base.specs.Words.{is_reserved}
 use Rattle.gc_lex.specs.declared.token.Token.{Token}
 use Rattle.gc_lex.specs.declared.token.Token.TheVariants.{Word}
-use Rattle.gc_expr.specs.Views.{Names, name_of}
+use Rattle.gc_expr.specs.Views.{Names}
 
 -- the tokens, and the names by number
 pub record Tokens : Type 0 where
@@ -13,7 +13,7 @@ pub record Tokens : Type 0 where
 
 -- a number is that of the token, where this is a name
 abbrev pub IsNumberOf : Names → Token → Sym → Type 0
-IsNumberOf names (Word a) sym = is_reserved a ≡ false → name_of names sym ≡ a
+IsNumberOf names (Word a) sym = is_reserved a ≡ false → slice_get names sym.0 ≡ Some a
 IsNumberOf names token sym = Unit {0}
 
 -- the same one by one

@@ -5,10 +5,12 @@
 
 mod depth;
 mod numbering;
+mod parse;
 mod part;
 mod refusal;
 mod regex_part;
 mod regexes;
 mod source;
 
+pub use parse::parse_regex;
 pub use refusal::ParseRefusal;

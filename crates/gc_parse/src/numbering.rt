@@ -1,6 +1,5 @@
-ghost use Rattle.std.specs.Prelude.{◌≡◌, false, IfOk};
+ghost use Rattle.std.specs.Prelude.{◌≡◌, false, slice_get, Some, IfOk};
 ghost use Rattle.gc_base.specs.Words.{is_reserved};
-ghost use Rattle.gc_expr.specs.Views.{name_of};
 ghost use Rattle.gc_parse.specs.Sources.{AreNumbersOf, IsNumberOf, Extends};
 
 use gc_ast::NameTable;
@@ -34,7 +33,7 @@ fn number_of(names: &mut NameTable, token: &Token) -> Result<Sym, Memory>
 
 fn number_of_word(names: &mut NameTable, word: &Name) -> Result<Sym, Memory>
     ensures extends { Extends names.old names.new }
-    ensures number { IfOk result (λ sym. is_reserved word.now ≡ false → name_of names.new sym ≡ word.now) }
+    ensures number { IfOk result (λ sym. is_reserved word.now ≡ false → slice_get names.new sym.0 ≡ Some word.now) }
 {
     if is_reserved(word) {
         Ok(Sym(0))

@@ -1,27 +1,30 @@
-ghost use Rattle.std.specs.Prelude.{◌≡◌, ◌∷◌, ◌+◌, ◌<◌, ◌^◌, [], drop, true, Some, IfOk};
+ghost use Rattle.std.specs.Prelude.{◌≡◌, ◌∷◌, ◌+◌, ◌<◌, ◌^◌, [], drop, length, true, Some, IfOk};
 ghost use Rattle.gc_base.specs.Words.{is_reserved};
 ghost use Rattle.gc_expr.specs.Views.{name_of};
 ghost use Rattle.gc_grammar.specs.Kinds.{among, begins, kind, mark_kind, word_kind, name_kind, number_kind, text_kind};
 ghost use Rattle.gc_grammar.specs.Readers.{means_mark, means_the_word, means_word, means_number, means_text, means_name};
 
+use crate::numbering::numbered;
 use crate::refusal::Refusal;
 use gc_ast::NameTable;
-use gc_base::{Duplicate, Name, NameAt, Str, Sym, is_reserved};
+use gc_base::{Duplicate, Memory, Name, NameAt, Str, Sym, is_reserved};
 use gc_lex::{Mark, Token, Tokens};
 use std::alloc::Global;
 use std::marker::Model;
 
 /// The tokens of a file, with the number of each name among them. A place is the number of a token,
 /// or how many there are.
+#[derive(Drop)]
 pub(crate) struct Source<'a> {
     alloc: Global,
     tokens: &'a [Token],
+    count: u32,
     syms: Vec<Sym>,
     names: NameTable,
 }
 
 impl<'a> Model for Source<'a> {
-    ghost use Rattle.std.specs.Prelude.{length, ◌<◌, ◌^◌};
+    ghost use Rattle.std.specs.Prelude.{◌≡◌, length, ◌<◌, ◌^◌};
     ghost use Rattle.gc_parse.specs.Sources as sources;
     ghost use Rattle.gc_parse.specs.Sources.{AreNumbersOf};
 
@@ -29,11 +32,41 @@ impl<'a> Model for Source<'a> {
 
     ghost view = { λ s. record { tokens = s.tokens.now; names = s.names } };
 
-    ghost invariant = { λ s. (length s.tokens.now < 2 ^ 32) × AreNumbersOf s.names s.tokens.now s.syms.items };
+    ghost invariant = { λ s. (length s.tokens.now < 2 ^ 32) × (s.count ≡ length s.tokens.now) × AreNumbersOf s.names s.tokens.now s.syms.items };
 }
 
 impl<'a> Source<'a> {
     ghost use Rattle.gc_parse.specs.Results.{Takes, Passes};
+
+    // The tokens with the numbers of their names.
+    pub fn of(alloc: Global, tokens: &'a Tokens) -> Result<Source<'a>, Memory>
+        ensures { IfOk result (λ source. source.tokens ≡ tokens.now.tokens) }
+    {
+        let count = tokens.len();
+        let tokens = tokens.as_slice();
+        let (names, syms) = numbered(alloc, tokens)?;
+        Ok(Source {
+            alloc,
+            tokens,
+            count,
+            syms,
+            names,
+        })
+    }
+
+    // How many tokens there are.
+    pub fn len(&self) -> u32
+        ensures { result ≡ length self.now.tokens }
+    {
+        self.count
+    }
+
+    // The names by number.
+    pub fn into_names(self) -> NameTable
+        ensures { result ≡ self.entry.names }
+    {
+        self.names
+    }
 
     // Where the trees go.
     pub fn alloc(&self) -> Global {

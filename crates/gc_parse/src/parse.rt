@@ -1,0 +1,38 @@
+ghost use Rattle.gc_regx.specs.Views.{regex_tree};
+ghost use Rattle.gc_grammar.specs.Queries.{SpellsRegex};
+ghost use Rattle.gc_parse.specs.Parses.{IsParse, IsWhole};
+
+use crate::depth::depth_fault;
+use crate::refusal::{ParseRefusal, Refusal};
+use crate::regexes::regex;
+use crate::source::Source;
+use gc_lex::Tokens;
+use gc_regx::Regex;
+use std::alloc::Global;
+
+/// The regular path expression of a whole token list.
+///
+/// Brackets that are too deep are refused first, with the first token that is too deep; then a list
+/// that spells no expression, with the first token with which no expression begins so, or the number
+/// of tokens where more of them would have to come.
+pub fn parse_regex(alloc: Global, tokens: &Tokens) -> Result<Regex, ParseRefusal>
+    ensures { IsParse SpellsRegex regex_tree tokens.now.tokens result }
+{
+    if let Some(token) = depth_fault(tokens) {
+        return Err(ParseRefusal::TooDeep(token));
+    }
+    Ok(whole_regex(alloc, tokens)?)
+}
+
+// The same where the brackets are not too deep.
+fn whole_regex(alloc: Global, tokens: &Tokens) -> Result<Regex, Refusal>
+    ensures { IsWhole SpellsRegex regex_tree tokens.now.tokens result }
+{
+    let source = Source::of(alloc, tokens)?;
+    let room = u64::from(source.len()) + 1;
+    let (part, end) = regex(&source, room, 0)?;
+    if end < source.len() {
+        return Err(Refusal::Syntax(end));
+    }
+    Ok(part.regex)
+}
