@@ -1,6 +1,6 @@
 pub mod Agreement
+pub mod Collecting
 pub mod ElementLists
-pub mod ElementMaps
 pub mod EndPlaces
 pub mod Finds
 pub mod FreeIds

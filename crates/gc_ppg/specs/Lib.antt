@@ -1,4 +1,5 @@
 pub mod Built
+pub mod Collected
 pub mod FreeIds
 pub mod KeyedPlaces
 pub mod LabelPlaces

@@ -7,28 +7,27 @@ ghost use Rattle.gc_spec.specs.PropertyGraph.{is_among};
 
 use crate::kind::Element;
 use gc_base::{Id, Memory};
+use indexmap::IndexMap;
 use std::alloc::Global;
-use std::collections::BTreeMap;
 use std::marker::Model;
 
-// Elements under construction. Contracts see them as the list that ascends by identity.
+// Elements under construction, in the order of their adding. An identity is found by its hash, and
+// the elements are sorted once, at the end. Contracts see them as the list that ascends by identity.
 #[derive(Drop)]
 pub(crate) struct ById<T: Element> {
-    entries: BTreeMap<Id, T>,
+    entries: IndexMap<Id, T>,
 }
 
 impl<T: Element> Model for ById<T> {
     ghost use Rattle.std.specs.Prelude.{◌≡◌, List};
     ghost use Rattle.std.specs.List.{AllByRecursion};
-    ghost use Rattle.std.specs.Ordering.{nat_cmp, on};
-    ghost use Rattle.std.specs.BTreeMap.{values};
-    ghost use Rattle.gc_base.specs.Ascending.{Ascends};
+    ghost use Rattle.gc_ppg.specs.Collected.{in_order};
 
     ghost Value = { List T };
 
-    ghost view = { λ s. values s.entries };
+    ghost view = { λ s. in_order T.id_of s.entries.entries };
 
-    ghost invariant = { λ s. AllByRecursion (λ e. e.0 ≡ T.id_of e.1) s.entries.entries × Ascends (on T.id_of nat_cmp) (values s.entries) };
+    ghost invariant = { λ s. AllByRecursion (λ e. e.0 ≡ T.id_of e.1) s.entries.entries };
 }
 
 impl<T: Element + Drop> ById<T> {
@@ -36,7 +35,7 @@ impl<T: Element + Drop> ById<T> {
         ensures { result ≡ [] }
     {
         ById {
-            entries: BTreeMap::new(alloc),
+            entries: IndexMap::new(alloc),
         }
     }
 
@@ -69,6 +68,8 @@ impl<T: Element + Drop> ById<T> {
         ensures { IfOk result (λ all. all.items ≡ self) }
     {
         let ById { entries } = self;
+        let mut entries = entries;
+        entries.sort_unstable_keys()?;
         let mut all = Vec::with_capacity(alloc, entries.len())?;
         for element in entries.into_values() {
             all.push(element)?;

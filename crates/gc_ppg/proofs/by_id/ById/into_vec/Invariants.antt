@@ -1,6 +1,6 @@
-use Rattle.std.proofs.Common.{◌≡◌}
+use Rattle.std.proofs.Common.{◌≡◌, ◌++◌}
 use Rattle.gc_ppg.proofs.by_id.ById.into_vec.Given as goal
 
--- the elements so far are those that were handed out
+-- the elements so far and those that are left are all
 abbrev pub invariant-loop-element : goal.invariant-loop-element
-invariant-loop-element g l = l.all.items ≡ l.yielded
+invariant-loop-element g l = l.all.items ++ l.element-iterator ≡ l.initial.element-iterator
