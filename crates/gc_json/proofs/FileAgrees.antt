@@ -1,11 +1,11 @@
 -- The graph of a file agrees with what identities stand for in the graphs of earlier files.
-use Rattle.std.proofs.Common.{◌≡◌, ℕ, ◌+◌, Bool, true, false, cond, ◌&&◌, List, [], ◌∷◌, ◌++◌, map, Option, Some, None, Result, Ok, Err, refl, sym, ap, ◌∙◌, subst, nat_le}
+use Rattle.std.proofs.Common.{◌≡◌, ℕ, ◌+◌, Bool, true, false, cond, ◌&&◌, List, [], ◌∷◌, ◌++◌, map, Result, Ok, Err, refl, ap, ◌∙◌, subst}
 use Rattle.std.specs.declared.cmp.Ordering.{Ordering}
 use Rattle.std.specs.Ordering.{is_lt, is_gt}
 use Rattle.std.specs.List.{filter, list_all}
 use Rattle.std.specs.Prelude.{if◌then◌else◌, IfOk}
 use Rattle.gc_base.specs.Ascending.{with_item}
-use Rattle.gc_spec.specs.Coherence.{ElementShape, NodeShape, EdgeShape, PathShape, shapes_of}
+use Rattle.gc_spec.specs.Coherence.{ElementShape, NodeShape, EdgeShape, PathShape}
 use Rattle.gc_spec.specs.PropertyGraph.{PropertyGraph, Node, Edge, Path, empty_graph, node_order, edge_order, path_order}
 use Rattle.gc_ppg.specs.Built.{with_node, with_edge, with_path}
 use Rattle.gc_ppg.specs.Shapes.{agrees, graph_agrees}

@@ -1,5 +1,5 @@
 -- The canonical text of a graph is loaded as that graph.
-use Rattle.std.proofs.Common.{◌≡◌, ℕ, ◌+◌, ◌≤◌, ◌&&◌, ◌||◌, ◌==◌, Bool, true, false, cond, List, [], ◌∷◌, ◌++◌, length, map, Some, Ok, Result, refl, sym, ap, ap₂, ◌∙◌, subst, arith, append_assoc, append-nil, nat_le}
+use Rattle.std.proofs.Common.{◌≡◌, ℕ, ◌+◌, ◌≤◌, ◌||◌, ◌==◌, Bool, true, false, List, [], ◌∷◌, ◌++◌, length, map, Some, Ok, refl, sym, ap, ap₂, ◌∙◌, subst, arith, append_assoc, append-nil, nat_le}
 use Rattle.std.proofs.lemmas.Bool.{and_parts}
 use Rattle.std.proofs.lemmas.Bool.Decides.{nat_tests}
 use Rattle.std.proofs.lemmas.List.{map-append}
@@ -12,20 +12,18 @@ use Rattle.gc_base.specs.declared.walk.Walk.{Walk}
 use Rattle.gc_spec.specs.Coherence.{NodeShape, EdgeShape, PathShape}
 use Rattle.gc_spec.specs.PropertyGraph.{Node, Edge, Path, PropertyGraph, IsId, IsNode, IsEdge, IsPath, IsGraph, AreDistinct, empty_graph, ids_of, node_ids, edge_ids, path_ids, is_among, is_joined, are_steps_from, is_walk, node_order, edge_order, path_order}
 use Rattle.gc_ppg.specs.Built.{with_node, with_edge, with_path}
-use Rattle.gc_ppg.specs.Shapes.{agrees}
 use Rattle.gc_ppg.specs.declared.shape.Kind.TheVariants as kind
-use Rattle.serde_json.specs.Data.{Data, Items, item}
+use Rattle.serde_json.specs.Data.{Data, item}
 use Rattle.serde_json.specs.Events.{items_len}
-use Rattle.serde_json.specs.Read.{read}
 use Rattle.serde_json.specs.View.{items_of}
 use Rattle.gc_json.specs.CanonicalText.{canonical_text, element_count, graph_data, id_data, node_data, edge_data, path_data, step_items}
 use Rattle.gc_json.specs.ElementParts.{described, fresh_id, new_id, node_id, end_of}
-use Rattle.gc_json.specs.FileElements.{Seen, node_of, ends_of, edge_from, edge_of, path_from, path_of, agreeing, add_node_of, add_edge_of, add_path_of}
+use Rattle.gc_json.specs.FileElements.{Seen, node_of, ends_of, edge_of, path_from, path_of, agreeing, add_node_of, add_edge_of, add_path_of}
 use Rattle.gc_json.specs.GraphFiles.{FileLists, add_elements_of, graph_of_lists, graph_of_few, graph_of_data, file_graph, located, most_elements, part_of}
-use Rattle.gc_json.specs.JsonValues.{id_of, largest_id, value_of}
+use Rattle.gc_json.specs.JsonValues.{id_of, value_of}
 use Rattle.gc_json.specs.LoadedAgain.{AgreesWith, NodeAgrees, EdgeAgrees, PathAgrees}
 use Rattle.gc_json.specs.Reading.{◌>>=◌, or_refused}
-use Rattle.gc_json.specs.WalkItems.{id_on_walk, known_walk, numbers_of, steps_with, walk_in, walk_items, walk_of}
+use Rattle.gc_json.specs.WalkItems.{id_on_walk, known_walk, steps_with, walk_in, walk_items, walk_of}
 use Rattle.gc_json.specs.declared.fault.Fault.TheVariants.{IdTooLarge, NoEnd}
 use Rattle.gc_json.specs.declared.refusal.GraphRefusal.TheVariants.{NotJson}
 use Rattle.gc_json.proofs.GraphsReadBack.{Bounded, edges_bounded, joined_bound, node_bound, read-canonical_text}

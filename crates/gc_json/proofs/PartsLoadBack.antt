@@ -1,5 +1,5 @@
 -- The data of labels, values, properties and walks give these again.
-use Rattle.std.proofs.Common.{◌≡◌, ℕ, ◌^◌, ◌&&◌, pos, negsuc, Bool, true, false, cond, List, [], ◌∷◌, ◌++◌, map, Some, Ok, Result, refl, sym, ap, ◌∙◌, subst, arith, append_assoc, append-nil, nat_le, nat_lt}
+use Rattle.std.proofs.Common.{◌≡◌, ℕ, ◌^◌, pos, negsuc, true, List, [], ◌∷◌, ◌++◌, map, Some, Ok, Result, refl, sym, ap, ◌∙◌, subst, arith, append_assoc, append-nil, nat_le, nat_lt}
 use Rattle.std.proofs.lemmas.Bool.Decides.{nat_tests}
 use Rattle.std.specs.List.{AllByRecursion}
 use Rattle.gc_base.specs.Ascending.{Ascends, with_item}
@@ -11,17 +11,16 @@ use Rattle.gc_base.specs.declared.literal.Literal.TheVariants.{Truth, Number, Te
 use Rattle.gc_base.specs.declared.properties.Property.{Property}
 use Rattle.gc_base.specs.declared.walk.Step.{Step}
 use Rattle.gc_spec.specs.PropertyGraph.{IsId}
-use Rattle.serde_json.specs.Data.{Data, string, Items, item, Members}
+use Rattle.serde_json.specs.Data.{string}
 use Rattle.serde_json.specs.View.{items_of}
 use Rattle.gc_json.specs.CanonicalText.{id_data, literal_data, values_data, property_members, step_items}
 use Rattle.gc_json.specs.ElementParts.{ElementParts, described}
 use Rattle.gc_json.specs.JsonValues.{id_of, largest_id}
-use Rattle.gc_json.specs.LabelLists.{label_of, labels_with, word_of}
+use Rattle.gc_json.specs.LabelLists.{label_of, labels_with}
 use Rattle.gc_json.specs.LiteralValues.{literal_of, values_with, values_of}
 use Rattle.gc_json.specs.PropertyMembers.{are_names, name_of, property_of, properties_with, properties_of}
 use Rattle.gc_json.specs.Reading.{◌>>=◌, or_refused}
 use Rattle.gc_json.specs.WalkItems.{are_numbers, id_on_walk, step_of, steps_with}
-use Rattle.gc_json.specs.declared.fault.Fault.{Fault}
 use Rattle.gc_json.specs.declared.fault.Fault.TheVariants.{NotLiteral, BadWalk}
 use Rattle.gc_json.proofs.SortedSets.{with_item-last}
 

@@ -1,5 +1,5 @@
 -- What each element of a graph file has: an identity, maybe labels and properties.
-use Rattle.std.specs.Prelude.{ℕ, ◌∷◌, List, [], codes, if◌then◌else◌, Result, Ok, Err}
+use Rattle.std.specs.Prelude.{ℕ, List, [], codes, if◌then◌else◌, Result, Ok, Err}
 use Rattle.gc_base.specs.declared.properties.Property.{Property}
 use Rattle.gc_spec.specs.PropertyGraph.{PropertyGraph, ids_of, node_ids, is_among}
 use Rattle.serde_json.specs.Data.{Data, Items, Members}

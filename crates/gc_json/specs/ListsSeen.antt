@@ -4,4 +4,4 @@ use Rattle.gc_json.specs.GraphFiles.{FileLists}
 use Rattle.gc_json.specs.declared.loading.Lists.{Lists}
 
 abbrev pub lists_seen : Lists → FileLists
-lists_seen l = record { nodes = items_view l.nodes.now; edges = items_view l.edges.now; paths = items_view l.paths.now }
+lists_seen l = record { nodes = items_view l.nodes.items; edges = items_view l.edges.items; paths = items_view l.paths.items }

@@ -16,6 +16,7 @@ mod parts;
 mod paths;
 mod properties;
 mod refusal;
+mod taken;
 mod text;
 mod values;
 mod walks;

@@ -8,16 +8,18 @@ ghost use Rattle.gc_json.specs.ListsSeen.{lists_seen};
 ghost use Rattle.gc_json.specs.Reading.{Gives, or_refused};
 ghost use Rattle.gc_json.specs.declared.fault.Failure.TheVariants as failure;
 ghost use Rattle.gc_json.specs.declared.refusal.GraphRefusal.TheVariants as refusal;
-ghost use Rattle.serde_json.specs.View.{view, items_view};
+ghost use Rattle.serde_json.specs.Data.{object};
+ghost use Rattle.serde_json.specs.View.{view, items_view, members_view};
 
 use crate::edges::add_edge;
 use crate::fault::{Failure, Fault};
 use crate::nodes::add_node;
 use crate::paths::add_path;
 use crate::refusal::{GraphRefusal, Part, Spot};
-use crate::values::{is_object_of, list_at, number_at};
+use crate::taken::{members_of, take_list};
+use crate::values::{is_object_of, number_at};
 use gc_ppg::{Coherence, Graph, GraphBuilder, Kind};
-use serde_json::Value;
+use serde_json::{Map, Value};
 use std::alloc::Global;
 
 /// The most elements that a file may list.
@@ -46,9 +48,7 @@ fn graph_of(
     ensures { Gives (λ builder. builder) (file_graph seen.now bytes.now) result }
 {
     let value = read(alloc, bytes)?;
-    let builder = graph_of_value(alloc, &value, seen)?;
-    drop(value);
-    Ok(builder)
+    graph_of_value(alloc, value, seen)
 }
 
 // The value of JSON text.
@@ -62,15 +62,15 @@ fn read(alloc: Global, bytes: &[u8]) -> Result<Value, Failure<GraphRefusal>>
     }
 }
 
-// The graph of a value.
+// The graph of a value, of which no part stays.
 fn graph_of_value(
     alloc: Global,
-    value: &Value,
+    value: Value,
     seen: &Coherence,
 ) -> Result<GraphBuilder, Failure<GraphRefusal>>
-    ensures { Gives (λ builder. builder) (graph_of_data seen.now (view value.now)) result }
+    ensures { Gives (λ builder. builder) (graph_of_data seen.now (view value)) result }
 {
-    match lists_of(value) {
+    match lists_of(alloc, value) {
         Ok(lists) => graph_of_few(alloc, lists, seen),
         Err(failure) => Err(failure.at(WHOLE)),
     }
@@ -83,17 +83,17 @@ const WHOLE: Spot = Spot {
 };
 
 // The lists of a file.
-#[derive(Clone, Copy)]
-pub(crate) struct Lists<'v> {
-    nodes: &'v [Value],
-    edges: &'v [Value],
-    paths: &'v [Value],
+#[derive(Drop)]
+pub(crate) struct Lists {
+    nodes: Vec<Value>,
+    edges: Vec<Value>,
+    paths: Vec<Value>,
 }
 
-impl Lists<'_> {
+impl Lists {
     // How many items there are.
     fn count(&self) -> usize
-        ensures { result ≡ min (2 ^ 64 - 1) (length self.now.nodes.now + length self.now.edges.now + length self.now.paths.now) }
+        ensures { result ≡ min (2 ^ 64 - 1) (length self.now.nodes.items + length self.now.edges.items + length self.now.paths.items) }
     {
         self.nodes
             .len()
@@ -103,13 +103,13 @@ impl Lists<'_> {
 }
 
 // The lists of an object of the version 1.
-fn lists_of<'v>(value: &'v Value) -> Result<Lists<'v>, Failure<Fault>>
-    ensures { Gives lists_seen (lists_of (view value.now)) result }
+fn lists_of(alloc: Global, value: Value) -> Result<Lists, Failure<Fault>>
+    ensures { Gives lists_seen (lists_of (view value)) result }
 {
-    if !is_file_object(value) {
+    if !is_file_object(&value) {
         return Err(Failure::Refused(Fault::WrongShape));
     }
-    lists_at(value)
+    lists_in(alloc, members_of(alloc, value))
 }
 
 // Whether a value is an object with no unknown key, and of the version 1.
@@ -121,12 +121,13 @@ fn is_file_object(value: &Value) -> bool
 }
 
 // The lists of an object; without its key a list is empty.
-fn lists_at<'v>(value: &'v Value) -> Result<Lists<'v>, Failure<Fault>>
-    ensures { Gives lists_seen (lists_at (view value.now)) result }
+fn lists_in(alloc: Global, members: Map<String, Value>) -> Result<Lists, Failure<Fault>>
+    ensures { Gives lists_seen (lists_at (object (members_view members.entries))) result }
 {
-    let nodes = list_at(value, "nodes")?;
-    let edges = list_at(value, "edges")?;
-    let paths = list_at(value, "paths")?;
+    let mut members = members;
+    let nodes = take_list(alloc, &mut members, "nodes")?;
+    let edges = take_list(alloc, &mut members, "edges")?;
+    let paths = take_list(alloc, &mut members, "paths")?;
     Ok(Lists {
         nodes,
         edges,
@@ -140,7 +141,7 @@ fn graph_of_few(
     lists: Lists,
     seen: &Coherence,
 ) -> Result<GraphBuilder, Failure<GraphRefusal>>
-    ensures { Gives (λ builder. builder) (graph_of_few seen.now (lists_seen lists.entry)) result }
+    ensures { Gives (λ builder. builder) (graph_of_few seen.now (lists_seen lists)) result }
 {
     if lists.count() > MOST_ELEMENTS {
         return Err(Failure::Refused(GraphRefusal::TooMany));
@@ -154,7 +155,7 @@ fn graph_of_lists(
     lists: Lists,
     seen: &Coherence,
 ) -> Result<GraphBuilder, Failure<GraphRefusal>>
-    ensures { Gives (λ builder. builder) (graph_of_lists seen.now (lists_seen lists.entry)) result }
+    ensures { Gives (λ builder. builder) (graph_of_lists seen.now (lists_seen lists)) result }
 {
     let mut builder = GraphBuilder::new(alloc);
     add_elements(alloc, &mut builder, seen, Kind::Node, lists.nodes)?;
@@ -163,18 +164,20 @@ fn graph_of_lists(
     Ok(builder)
 }
 
-// Adds the elements of a list, one after another.
+// Adds the elements of a list, one after another. Each value is let go once it is read.
 fn add_elements(
     alloc: Global,
     builder: &mut GraphBuilder,
     seen: &Coherence,
     kind: Kind,
-    values: &[Value],
+    values: Vec<Value>,
 ) -> Result<(), Failure<GraphRefusal>>
-    ensures { Gives (λ _. builder.new) (add_elements_of seen.now kind 0 builder.old (items_view values.now)) result }
+    ensures { Gives (λ _. builder.new) (add_elements_of seen.now kind 0 builder.old (items_view values.items)) result }
 {
-    for (index, value) in values.iter().enumerate() {
-        add_located(alloc, builder, seen, kind, index, value)?;
+    let mut index = 0;
+    for value in values {
+        add_located(alloc, builder, seen, kind, index, &value)?;
+        index += 1;
     }
     Ok(())
 }

@@ -1,4 +1,5 @@
-ghost use Rattle.std.specs.Prelude.{◌≡◌, map};
+ghost use Rattle.std.specs.Prelude.{◌≡◌, map, nat_eq};
+ghost use Rattle.std.specs.Cmp.Lexicographic.{pointwise};
 ghost use Rattle.gc_json.specs.JsonValues.{number_at, is_object_of, has_only, is_key_among, list_at, members_at};
 ghost use Rattle.gc_json.specs.PartsSeen.{members_seen};
 ghost use Rattle.gc_json.specs.Reading.{Gives};
@@ -37,11 +38,18 @@ fn is_key_among(key: &str, keys: &[&str]) -> bool
     ensures { result ≡ is_key_among (map (λ k. k.now) keys.now) key.now }
 {
     for other in keys {
-        if key == *other {
+        if is_same_key(key, other) {
             return true;
         }
     }
     false
+}
+
+// Whether two keys are one. Most differ in length, which is told at once.
+fn is_same_key(key: &str, other: &str) -> bool
+    ensures { result ≡ pointwise nat_eq key.now other.now }
+{
+    key.len() == other.len() && key == other
 }
 
 // The items of the array at a key; without the key there are none.

@@ -8,7 +8,6 @@ use Rattle.std.proofs.Common.{List}
 use Rattle.gc_json.specs.FileElements.{Seen}
 use Rattle.gc_json.specs.GraphFiles.{FileLists, graph_of_few, graph_of_lists, most_elements}
 use Rattle.gc_json.specs.ListsSeen.{lists_seen}
-use Rattle.gc_json.specs.declared.loading.Lists.{Lists}
 use Rattle.gc_json.specs.declared.refusal.GraphRefusal.TheVariants.{TooMany}
 use Rattle.gc_json.proofs.loading.graph_of_few.Goals as goal
 
@@ -27,10 +26,10 @@ few seen l n len within = rw (len, within) refl
 pub returns-then-count-gt-MOST_ELEMENTS : goal.returns-then-count-gt-MOST_ELEMENTS
 returns-then-count-gt-MOST_ELEMENTS c =
     let l = c.args.lists in
-    too_many c.args.seen.now (lists_seen l) _ (lengths l.nodes.now l.edges.now l.paths.now) (grind (arith, nat_tests))
+    too_many c.args.seen.now (lists_seen l) _ (lengths l.nodes.items l.edges.items l.paths.items) (grind (arith, nat_tests))
 
 pub returns : goal.returns
 returns c =
     let l = c.args.lists in
-    let same = few c.args.seen.now (lists_seen l) _ (lengths l.nodes.now l.edges.now l.paths.now) (grind (arith, nat_tests)) in
+    let same = few c.args.seen.now (lists_seen l) _ (lengths l.nodes.items l.edges.items l.paths.items) (grind (arith, nat_tests)) in
     rw same c.graph_of_lists.ensures
