@@ -10,7 +10,7 @@ use Rattle.gcore.specs.declared.command.Command.TheVariants.{Run, Cert, Explain,
 use Rattle.gcore.specs.declared.command.CommandRefusal.{CommandRefusal}
 use Rattle.gcore.specs.declared.command.CommandRefusal.TheVariants.{Usage, Memory}
 use Rattle.gcore.specs.declared.command.Session.{Session}
-use Rattle.gcore.specs.declared.make.MakeKind.{MakeKind}
+use Rattle.gc_base.specs.declared.place.MakeKind.{MakeKind}
 use Rattle.gcore.specs.declared.pair.Pair.{Pair}
 
 -- `Q N=F ..`: the query file's word, which is not empty, and the graph files
