@@ -16,6 +16,7 @@ use gc_io::{Folder, Sink, SinkFault, write_whole};
 use gc_json::print;
 use gc_ppg::Graph;
 use std::alloc::Global;
+use std::mem::ManuallyDrop;
 use std::sync::ledger::Ledger;
 
 /// Runs a command: its graph files are read first, then the query file, then the answer is written.
@@ -68,7 +69,10 @@ fn run_query<F: Folder, S: Sink, L: Ledger>(
 {
     let catalog = read_graphs(alloc, folder, pairs)?;
     let label = read_label(alloc, folder, query)?;
-    write_labelled(alloc, catalog.graphs().at(0), &label, out, steps)
+    let written = write_labelled(alloc, catalog.graphs().at(0), &label, out, steps);
+    // The program ends with the answer, and the system takes the memory of the graphs back whole.
+    let _kept = ManuallyDrop::new(catalog);
+    written
 }
 
 // Writes the text of the nodes of a label.

@@ -10,8 +10,8 @@ use Rattle.gcore.proofs.answer.run_query.Goals as goal
 pub read_graphs-requires : goal.read_graphs-requires
 read_graphs-requires g c = graphs_differ c.args.pairs.now c.requires.graphs
 
-pub write_labelled-requires : goal.write_labelled-requires
-write_labelled-requires g c =
+pub write_labelled-written-requires : goal.write_labelled-written-requires
+write_labelled-written-requires g c =
     λ x room. room_holds c.args.query.now c.args.pairs.now (g.F.Folder.files c.args.folder.now) c.in_ok-catalog.catalog.graphs c.at.result.now c.in_ok-label.label x (c.requires.room x room)
     c.in_ok-catalog.ensures.outcome.2 (sym (ap (λ gs. slice_get gs 0) c.graphs.ensures.graphs) ∙ c.at.ensures)
     (subst (λ (told : Option Files). IfSome told (λ files. label_due files c.args.query.now ≡ Ok c.in_ok-label.label)) c.in_ok-catalog.ensures.kept c.in_ok-label.ensures.outcome)
@@ -35,5 +35,5 @@ pub returns-clause-outcome : goal.returns-clause-outcome
 returns-clause-outcome g c =
     let told = g.F.Folder.files c.args.folder.now in
     let label = subst (λ (t : Option Files). IfSome t (λ files. label_due files c.args.query.now ≡ Ok c.in_ok-label.label)) c.in_ok-catalog.ensures.kept c.in_ok-label.ensures.outcome in
-    written c.args.query.now c.args.pairs.now told c.in_ok-catalog.catalog.graphs c.at.result.now c.in_ok-label.label (g.F.Folder.faults c.args.folder.now) (g.F.Folder.faults c.read_label.new.folder) _ c.write_labelled.result
-    c.in_ok-catalog.ensures.outcome.2 (sym (ap (λ gs. slice_get gs 0) c.graphs.ensures.graphs) ∙ c.at.ensures) label c.write_labelled.ensures
+    written c.args.query.now c.args.pairs.now told c.in_ok-catalog.catalog.graphs c.at.result.now c.in_ok-label.label (g.F.Folder.faults c.args.folder.now) (g.F.Folder.faults c.read_label.new.folder) _ c.write_labelled-written.result
+    c.in_ok-catalog.ensures.outcome.2 (sym (ap (λ gs. slice_get gs 0) c.graphs.ensures.graphs) ∙ c.at.ensures) label c.write_labelled-written.ensures
