@@ -3,3 +3,5 @@ pub mod Prefixes
 pub mod RegexLemmas
 pub mod RegexRight
 pub mod TokenKinds
+pub mod Whole
+pub mod WholeRegex

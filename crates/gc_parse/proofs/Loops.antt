@@ -1,5 +1,5 @@
 -- How the reader of any number of values goes on, turn by turn.
-use Rattle.std.proofs.Common.{◌≡◌, refl, ap, sym, ◌∙◌, ℕ, zero, suc, ◌+◌, ◌<◌, ◌-◌, Bool, true, false, if◌then◌else◌, List, [], ◌∷◌, ◌++◌, map, subst, Result, Err}
+use Rattle.std.proofs.Common.{◌≡◌, refl, ap, sym, ◌∙◌, ℕ, zero, suc, ◌+◌, ◌<◌, ◌-◌, true, false, if◌then◌else◌, List, [], ◌∷◌, ◌++◌, map, subst, Result, Err}
 use Rattle.gc_lex.specs.declared.token.Token.{Token}
 use Rattle.gc_grammar.specs.Words.{Point}
 use Rattle.gc_grammar.specs.Kinds.{begins}

@@ -4,9 +4,8 @@ use Rattle.std.specs.List.{flat_map}
 use Rattle.gc_expr.specs.Views.{Names, name_of}
 use Rattle.gc_regx.specs.Trees.{RegexTree, ARegex, ARow, row}
 use Rattle.gc_regx.specs.Views.{regex_tree}
-use Rattle.gc_ast.specs.Trees.{Named}
 use Rattle.gc_ast.specs.PatternViews.{all_named_by}
-use Rattle.gc_grammar.specs.Regexes.{Expression, chained, views_of}
+use Rattle.gc_grammar.specs.Regexes.{chained, views_of}
 use Rattle.gc_parse.specs.declared.regex_part.Part.{Part}
 use Rattle.gc_parse.specs.RegexReaders.{read_regex, read_alt}
 use Rattle.gc_parse.specs.RegexViews.{part_view, parts_view}

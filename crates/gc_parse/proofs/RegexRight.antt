@@ -1,5 +1,5 @@
 -- The readers of regular path expressions are right.
-use Rattle.std.proofs.Common.{◌≡◌, refl, ℕ, suc, false, List, [], ◌∷◌}
+use Rattle.std.proofs.Common.{refl, ℕ, suc, false, [], ◌∷◌}
 use Rattle.gc_lex.specs.declared.token.Mark.TheVariants as mark
 use Rattle.gc_grammar.specs.Words.{Lang}
 use Rattle.gc_grammar.specs.Kinds.{mark_kind}

@@ -1,5 +1,5 @@
 -- What the kind of a token says of its meaning.
-use Rattle.std.proofs.Common.{◌≡◌, refl, sym, ap, ◌∙◌, subst, ℕ, zero, suc, ◌+◌, ◌<◌, ◌≤◌, Bool, true, false, not, ◌||◌, if◌then◌else◌, nat_eq, List, [], ◌∷◌, length, drop, Option, Some, None, slice_get, get_or}
+use Rattle.std.proofs.Common.{◌≡◌, refl, sym, ap, ◌∙◌, subst, ℕ, zero, suc, ◌+◌, ◌<◌, ◌≤◌, Bool, true, false, not, ◌||◌, if◌then◌else◌, nat_eq, List, [], ◌∷◌, length, drop, Some, None, slice_get, get_or}
 use Rattle.std.proofs.lemmas.Bool.{false≢true, eqb-true, eq-eqb}
 use Rattle.std.proofs.lemmas.Option.{same_Some}
 use Rattle.std.specs.Cmp.Lexicographic.{pointwise, bytes_decides}
@@ -117,10 +117,11 @@ same_kind v w r same = here (is_reserved v) refl
   where
     k : word_kind v ≡ word_kind w
     k = eqb-true (word_kind v) (word_kind w) same
+
     here : (b : Bool) → is_reserved v ≡ b → v ≡ w
     here true is =
         let p : position_or_len (pointwise nat_eq v) reserved_words ≡ position_or_len (pointwise nat_eq w) reserved_words =
-            omega (arith, sym (reserved_kind v is) ∙ k ∙ reserved_kind w r) in
+        omega (arith, sym (reserved_kind v is) ∙ k ∙ reserved_kind w r) in
         same_Some v w (sym (stands_at v reserved_words is) ∙ ap (slice_get reserved_words) p ∙ stands_at w reserved_words r)
     here false is = absurd (omega (arith, sym (name_has_kind v is) ∙ k ∙ reserved_kind w r))
 

@@ -1,5 +1,5 @@
 -- The readers of what a CONSTRUCT makes, a production each, in the words of the grammar's readers.
-use Rattle.std.specs.Prelude.{◌≡◌, ℕ, List, [], ◌∷◌, codes, Option}
+use Rattle.std.specs.Prelude.{ℕ, List, [], ◌∷◌, codes, Option}
 use Rattle.gc_lex.specs.declared.token.Mark.TheVariants as mark
 use Rattle.gc_ast.specs.Trees as tree
 use Rattle.gc_ast.specs.Trees.{Tree, AnItem, AConstructPart, AGroupTerm, AnAssign, AChange, row, maybe}
@@ -43,9 +43,9 @@ unfoldable pub read_celement : ℕ → Nested → Reader Unplaced
 read_celement room inside =
     read_made
     (read_both read_name_if
-      (read_both (read_optional (mark_kind mark.Equals ∷ []) (read_behind (read_mark mark.Equals) read_name))
-        (read_both (read_optional (word_kind (codes "GROUP") ∷ []) (read_group room))
-          (read_both (read_new_labels room) (read_assigns_if room inside)))))
+    (read_both (read_optional (mark_kind mark.Equals ∷ []) (read_behind (read_mark mark.Equals) read_name))
+    (read_both (read_optional (word_kind (codes "GROUP") ∷ []) (read_group room))
+    (read_both (read_new_labels room) (read_assigns_if room inside)))))
     λ n v. record {
       name = v.0;
       copy = v.1.0;
@@ -69,7 +69,7 @@ unfoldable pub read_new_stored : ℕ → Nested → Reader (Tree AConstructPart)
 read_new_stored room inside =
     read_made
     (read_in_slashes
-      (read_both (read_behind (read_mark mark.AtSign) read_name) (read_both (read_new_labels room) (read_assigns_if room inside))))
+    (read_both (read_behind (read_mark mark.AtSign) read_name) (read_both (read_new_labels room) (read_assigns_if room inside))))
     λ n v. tree.NewStored n v.0 v.1.0 (row (listed v.1.1))
 
 -- `-` `/` and a name: the tokens that tell a projected path from a new stored one
@@ -121,8 +121,8 @@ unfoldable pub read_chain_item : ℕ → Nested → Reader (Tree AnItem)
 read_chain_item room inside =
     read_made
     (read_both (read_cchain room inside)
-      (read_both (read_many (word_kind (codes "SET") ∷ word_kind (codes "REMOVE") ∷ []) (read_sub room inside) room)
-        (read_optional (word_kind (codes "WHEN") ∷ []) (read_behind (read_the_word (codes "WHEN")) (read_formula room inside)))))
+    (read_both (read_many (word_kind (codes "SET") ∷ word_kind (codes "REMOVE") ∷ []) (read_sub room inside) room)
+    (read_optional (word_kind (codes "WHEN") ∷ []) (read_behind (read_the_word (codes "WHEN")) (read_formula room inside)))))
     λ n v. tree.ChainItem (row v.0) (row v.1.0) (maybe v.1.1)
 
 unfoldable pub read_item : ℕ → Nested → Reader (Tree AnItem)

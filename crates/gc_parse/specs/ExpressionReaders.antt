@@ -1,5 +1,5 @@
 -- The readers of expressions, a production each, in the words of the grammar's readers.
-use Rattle.std.specs.Prelude.{◌≡◌, ℕ, Bool, true, false, List, [], ◌∷◌, codes, Option, Some, None}
+use Rattle.std.specs.Prelude.{ℕ, Bool, true, false, List, [], ◌∷◌, codes, Some, None}
 use Rattle.gc_lex.specs.declared.token.Mark.TheVariants as mark
 use Rattle.gc_expr.specs.declared.expr.Comparison.{Comparison}
 use Rattle.gc_expr.specs.declared.expr.Comparison.TheVariants.{Equal, Unequal, Less, LessEqual, Greater, GreaterEqual, Member, Included}
@@ -27,8 +27,8 @@ unfoldable pub read_indexed : List ℕ → (List ℕ → Expr → ExprTree ANode
 read_indexed what make inside =
     read_made
     (read_both
-      (read_behind (read_the_word what) (read_in_parentheses read_name))
-      (read_before (read_behind (read_mark mark.OpenBracket) inside.expr) (read_mark mark.CloseBracket)))
+    (read_behind (read_the_word what) (read_in_parentheses read_name))
+    (read_before (read_behind (read_mark mark.OpenBracket) inside.expr) (read_mark mark.CloseBracket)))
     λ n v. At n (make v.0.name v.1)
 
 unfoldable pub read_folding : Reader Fold

@@ -1,5 +1,5 @@
 -- What a parse of a token list is.
-use Rattle.std.specs.Prelude.{◌≡◌, ℕ, ◌+◌, ◌≤◌, List, length, take, Result, Ok, Err, Option, Some, None}
+use Rattle.std.specs.Prelude.{◌≡◌, ◌+◌, ◌≤◌, List, length, take, Result, Ok, Err, Some, None}
 use Rattle.gc_lex.specs.declared.token.Token.{Token}
 use Rattle.gc_parse.specs.declared.refusal.ParseRefusal.{ParseRefusal}
 use Rattle.gc_parse.specs.declared.refusal.ParseRefusal.TheVariants.{TooDeep, Syntax, Memory}

@@ -1,14 +1,14 @@
 -- The readers of patterns, a production each, in the words of the grammar's readers. The room is more
 -- than the number of tokens.
-use Rattle.std.specs.Prelude.{◌≡◌, ℕ, zero, suc, List, [], ◌∷◌, codes, Option, if◌then◌else◌}
+use Rattle.std.specs.Prelude.{ℕ, List, [], ◌∷◌, codes, Option}
 use Rattle.gc_base.specs.declared.place.Direction.{Direction}
 use Rattle.gc_base.specs.declared.place.Direction.TheVariants.{Backward}
 use Rattle.gc_lex.specs.declared.token.Mark.TheVariants as mark
 use Rattle.gc_ast.specs.declared.pattern.CountAt.{CountAt}
 use Rattle.gc_ast.specs.Trees as tree
 use Rattle.gc_ast.specs.Trees.{Tree, APropertyUse, APattern, APathBody, ALocated, Named, row}
-use Rattle.gc_grammar.specs.Kinds.{mark_kind, word_kind, number_kind, name_kind, begins}
-use Rattle.gc_grammar.specs.Readers.{Reader, Got, then_read, read_both, read_made, read_behind, read_before, read_either, read_fork, read_optional, read_many, read_separated, read_mark, read_the_word, read_word, read_number, read_name}
+use Rattle.gc_grammar.specs.Kinds.{mark_kind, word_kind, number_kind, name_kind}
+use Rattle.gc_grammar.specs.Readers.{Reader, read_both, read_made, read_behind, read_before, read_either, read_fork, read_optional, read_many, read_separated, read_mark, read_the_word, read_word, read_number, read_name}
 use Rattle.gc_grammar.specs.Regexes.{Expression}
 use Rattle.gc_grammar.specs.Patterns.{Unplaced, placed, listed, arrow, in_turn}
 use Rattle.gc_parse.specs.RegexReaders.{read_regex}
@@ -38,8 +38,8 @@ unfoldable pub read_element : ℕ → Reader Unplaced
 read_element room =
     read_made
     (read_both read_name_if
-      (read_both (read_label_groups room)
-        (read_optional (mark_kind mark.OpenBrace ∷ []) (read_property_uses room))))
+    (read_both (read_label_groups room)
+    (read_optional (mark_kind mark.OpenBrace ∷ []) (read_property_uses room))))
     λ n v. record { name = v.0; labels = v.1.0; properties = listed v.1.1 }
 
 unfoldable pub read_node : ℕ → Reader (Tree APattern)
@@ -52,12 +52,12 @@ unfoldable pub read_edge_on : {A : Type 0} → Reader A → Reader (A × Directi
 read_edge_on inside =
     read_made
     (read_both
-      (read_before
-        (read_before
-          (read_behind (read_mark mark.Minus) (read_behind (read_mark mark.OpenBracket) inside))
-          (read_mark mark.CloseBracket))
-        (read_mark mark.Minus))
-      (read_optional (mark_kind mark.Greater ∷ []) (read_mark mark.Greater)))
+    (read_before
+    (read_before
+    (read_behind (read_mark mark.Minus) (read_behind (read_mark mark.OpenBracket) inside))
+    (read_mark mark.CloseBracket))
+    (read_mark mark.Minus))
+    (read_optional (mark_kind mark.Greater ∷ []) (read_mark mark.Greater)))
     λ n v. (v.0, arrow v.1)
 
 -- `<` `-` `[` inside `]` `-`
@@ -65,10 +65,10 @@ unfoldable pub read_edge_back : {A : Type 0} → Reader A → Reader (A × Direc
 read_edge_back inside =
     read_made
     (read_before
-      (read_before
-        (read_behind (read_mark mark.Less) (read_behind (read_mark mark.Minus) (read_behind (read_mark mark.OpenBracket) inside)))
-        (read_mark mark.CloseBracket))
-      (read_mark mark.Minus))
+    (read_before
+    (read_behind (read_mark mark.Less) (read_behind (read_mark mark.Minus) (read_behind (read_mark mark.OpenBracket) inside)))
+    (read_mark mark.CloseBracket))
+    (read_mark mark.Minus))
     λ n v. (v, Backward)
 
 unfoldable pub read_edge_of : {A : Type 0} → Reader A → Reader (A × Direction)
@@ -95,7 +95,7 @@ unfoldable pub read_found : ℕ → Reader (ℕ × Tree APathBody)
 read_found room =
     read_made
     (read_both (read_optional (number_kind ∷ []) read_count)
-      (read_both read_name (read_both (read_angled room) read_cost_if)))
+    (read_both read_name (read_both (read_angled room) read_cost_if)))
     λ n v. (v.1.1.0.0, tree.Found v.0 v.1.0 v.1.1.0.1.tree v.1.1.0.1.views v.1.1.1)
 
 unfoldable pub read_all : ℕ → Reader (ℕ × Tree APathBody)
@@ -118,10 +118,10 @@ unfoldable pub read_in_slashes : {A : Type 0} → Reader A → Reader A
 read_in_slashes inside =
     read_before
     (read_before
-      (read_before
-        (read_behind (read_mark mark.Minus) (read_behind (read_mark mark.Slash) inside))
-        (read_mark mark.Slash))
-      (read_mark mark.Minus))
+    (read_before
+    (read_behind (read_mark mark.Minus) (read_behind (read_mark mark.Slash) inside))
+    (read_mark mark.Slash))
+    (read_mark mark.Minus))
     (read_mark mark.Greater)
 
 unfoldable pub read_path : ℕ → Reader (Tree APattern)

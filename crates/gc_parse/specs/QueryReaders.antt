@@ -1,6 +1,5 @@
 -- The readers of queries and files, a production each, in the words of the grammar's readers.
-use Rattle.std.specs.Prelude.{◌≡◌, ℕ, zero, suc, ◌+◌, ◌-◌, List, [], ◌∷◌, codes, length, Option}
-use Rattle.gc_lex.specs.declared.token.Token.{Token}
+use Rattle.std.specs.Prelude.{ℕ, zero, suc, ◌+◌, List, [], ◌∷◌, codes, Option}
 use Rattle.gc_lex.specs.declared.token.Token.TheVariants.{Symbol}
 use Rattle.gc_lex.specs.declared.token.Mark.TheVariants as mark
 use Rattle.gc_ast.specs.declared.query.SetOp.{SetOp}
@@ -8,8 +7,8 @@ use Rattle.gc_ast.specs.declared.query.SetOp.TheVariants.{Union, Intersect, Minu
 use Rattle.gc_ast.specs.Trees as tree
 use Rattle.gc_ast.specs.Trees.{Tree, AStatement, AQuery, ANextTerm, ATerm, AHead, ABasic, ABlock, AFormula, AnOptional, Named, row, rows, maybe}
 use Rattle.gc_grammar.specs.Kinds.{mark_kind, word_kind, name_kind}
-use Rattle.gc_grammar.specs.Readers.{Reader, Reading, Got, Stuck, stuck, then_read, in_front, read_both, read_made, read_behind, read_before, read_either, read_fork, read_optional, read_many, read_separated, read_as, read_mark, read_the_word, read_name}
-use Rattle.gc_grammar.specs.Queries.{as_term, as_query, start}
+use Rattle.gc_grammar.specs.Readers.{Reader, Got, Stuck, stuck, then_read, in_front, read_both, read_made, read_behind, read_either, read_fork, read_optional, read_many, read_separated, read_as, read_mark, read_the_word, read_name}
+use Rattle.gc_grammar.specs.Queries.{as_term, as_query}
 use Rattle.gc_parse.specs.ExpressionReaders.{Nested, read_formula, read_expr, read_in_parentheses}
 use Rattle.gc_parse.specs.PatternReaders.{read_vchain, read_located}
 use Rattle.gc_parse.specs.ConstructReaders.{read_item}
@@ -35,9 +34,9 @@ unfoldable pub read_basic : ℕ → Nested → Reader (Tree ABasic)
 read_basic room inside =
     read_made
     (read_both
-      (read_behind (read_the_word (codes "CONSTRUCT")) (read_separated (mark_kind mark.Comma ∷ []) (read_item room inside) (read_mark mark.Comma) room))
-      (read_both (read_behind (read_the_word (codes "MATCH")) (read_block room inside))
-        (read_many (word_kind (codes "OPTIONAL") ∷ []) (read_optional_block room inside) room)))
+    (read_behind (read_the_word (codes "CONSTRUCT")) (read_separated (mark_kind mark.Comma ∷ []) (read_item room inside) (read_mark mark.Comma) room))
+    (read_both (read_behind (read_the_word (codes "MATCH")) (read_block room inside))
+    (read_many (word_kind (codes "OPTIONAL") ∷ []) (read_optional_block room inside) room)))
     λ n v. tree.Basic n (row v.0) v.1.0 (row v.1.1)
 
 unfoldable pub read_term : ℕ → Nested → Reader (Tree ATerm)
@@ -53,9 +52,9 @@ unfoldable pub read_path_head : ℕ → Nested → Reader (Tree AHead)
 read_path_head room inside =
     read_made
     (read_both (read_behind (read_the_word (codes "PATH")) read_name)
-      (read_both
-        (read_behind (read_mark mark.Equals) (read_separated (mark_kind mark.Comma ∷ []) (read_vchain room) (read_mark mark.Comma) room))
-        (read_both (read_where room inside) (read_condition_if (codes "COST") room inside))))
+    (read_both
+    (read_behind (read_mark mark.Equals) (read_separated (mark_kind mark.Comma ∷ []) (read_vchain room) (read_mark mark.Comma) room))
+    (read_both (read_where room inside) (read_condition_if (codes "COST") room inside))))
     λ n v. tree.PathHead v.0 (rows v.1.0) v.1.1.0 (maybe v.1.1.1)
 
 unfoldable pub read_head : ℕ → Nested → Reader (Tree AHead)
@@ -79,7 +78,7 @@ unfoldable pub read_query : ℕ → Nested → Reader (Tree AQuery)
 read_query room inside =
     read_made
     (read_both (read_many (word_kind (codes "PATH") ∷ word_kind (codes "GRAPH") ∷ []) (read_head room inside) room)
-      (read_both (read_term room inside) (read_many set_op_kinds (read_next_term room inside) room)))
+    (read_both (read_term room inside) (read_many set_op_kinds (read_next_term room inside) room)))
     λ n v. as_query v.0 v.1.0 v.1.1
 
 -- the readers of what brackets may hold, for lists of fewer tokens than the room

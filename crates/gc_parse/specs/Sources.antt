@@ -1,5 +1,5 @@
 -- What the parser reads from: the tokens of a file, and the number of each name among them.
-use Rattle.std.specs.Prelude.{◌≡◌, ℕ, ◌+◌, false, List, [], ◌∷◌, ◌++◌, Some, slice_get}
+use Rattle.std.specs.Prelude.{◌≡◌, false, List, [], ◌∷◌, ◌++◌, Some, slice_get}
 use Rattle.gc_base.specs.declared.place.Sym.{Sym}
 use Rattle.gc_base.specs.Words.{is_reserved}
 use Rattle.gc_lex.specs.declared.token.Token.{Token}

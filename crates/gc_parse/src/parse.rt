@@ -29,8 +29,15 @@ fn whole_regex(alloc: Global, tokens: &Tokens) -> Result<Regex, Refusal>
     ensures { IsWhole SpellsRegex regex_tree tokens.now.tokens result }
 {
     let source = Source::of(alloc, tokens)?;
+    regex_of(&source)
+}
+
+// The expression that all tokens spell.
+fn regex_of(source: &Source) -> Result<Regex, Refusal>
+    ensures { IsWhole SpellsRegex regex_tree source.now.tokens result }
+{
     let room = u64::from(source.len()) + 1;
-    let (part, end) = regex(&source, room, 0)?;
+    let (part, end) = regex(source, room, 0)?;
     if end < source.len() {
         return Err(Refusal::Syntax(end));
     }

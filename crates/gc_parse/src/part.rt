@@ -81,7 +81,10 @@ pub(crate) fn starred(alloc: Global, part: Part) -> Result<Part, Memory>
     ensures { IfOk result (λ s. (names : Names) → part_view names s ≡ starred_tree (part_view names part) (Some tt)) }
 {
     let regex = Regex::star(alloc, part.regex)?;
-    Ok(Part { regex, views: part.views })
+    Ok(Part {
+        regex,
+        views: part.views,
+    })
 }
 
 // One of some branches; of one branch the branch itself.
@@ -92,7 +95,10 @@ pub(crate) fn branches(alloc: Global, mut parts: Vec<Part>) -> Result<Part, Memo
         return Ok(parts.swap_remove(0));
     }
     let (regexes, views) = divided(alloc, parts)?;
-    Ok(Part { regex: Regex::alt(regexes), views })
+    Ok(Part {
+        regex: Regex::alt(regexes),
+        views,
+    })
 }
 
 // Parts one after another; of one part the part itself.
@@ -103,7 +109,10 @@ pub(crate) fn sequence(alloc: Global, mut parts: Vec<Part>) -> Result<Part, Memo
         return Ok(parts.swap_remove(0));
     }
     let (regexes, views) = divided(alloc, parts)?;
-    Ok(Part { regex: Regex::cat(regexes), views })
+    Ok(Part {
+        regex: Regex::cat(regexes),
+        views,
+    })
 }
 
 // The expressions of parts, and all their views.
@@ -114,7 +123,10 @@ fn divided(alloc: Global, parts: Vec<Part>) -> Result<(RegexList, Vec<NameAt>), 
     let mut regexes = Vec::with_capacity(alloc, parts.len())?;
     let mut views = Vec::new(alloc);
     for part in parts {
-        let Part { regex, views: mut own } = part;
+        let Part {
+            regex,
+            views: mut own,
+        } = part;
         regexes.push(regex)?;
         views.append(&mut own)?;
     }

@@ -1,4 +1,4 @@
-use Rattle.std.proofs.Common.{◌≡◌, ◌+◌, ◌≤◌, length, take}
+use Rattle.std.proofs.Common.{◌≡◌, ◌≤◌, length, take}
 use Rattle.std.specs.List.{filter}
 use Rattle.gc_parse.specs.Depths.{is_opening, is_closing}
 use Rattle.gc_parse.proofs.Prefixes.{NoneTooDeep}

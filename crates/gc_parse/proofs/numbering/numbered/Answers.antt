@@ -2,7 +2,6 @@ use Rattle.std.proofs.Common.{refl}
 use Rattle.std.proofs.lemmas.Option.{slice_get_read}
 use Rattle.gc_parse.proofs.Prefixes.{numbers_next}
 use Rattle.gc_parse.proofs.numbering.numbered.Goals as goal
-use native.Mathlib.Omega.{arith}
 
 pub loop-token-preserved : goal.loop-token-preserved
 loop-token-preserved c =

@@ -14,8 +14,7 @@ returns-clause-number c =
 pub returns-clause-taken : goal.returns-clause-taken
 returns-clause-taken c =
     let names = c.args.self.now.names in
-    let ts = drop c.args.at c.args.self.now.tokens in
-    (
+    let ts = drop c.args.at c.args.self.now.tokens in (
       c.in_ok-name.ensures.taken.0 ∙ sym (name_word ts (name_of names c.in_ok-name.name.sym) c.in_ok-name.ensures.taken.0) ∙ c.in_ok-bytes.ensures.0,
       c.in_ok-name.ensures.taken.1,
       c.in_ok-name.ensures.taken.2,
