@@ -63,3 +63,16 @@ pub regex_exits : (names : Names) (ts : List Token) (room : ℕ) (refused : Refu
 regex_exits names ts room (refusal.Syntax k) result room_is exit stuck =
     subst (IsWhole SpellsRegex regex_tree ts) (sym (exit.1 ∙ ap Err exit.2)) (regex_stuck ts room k room_is stuck)
 regex_exits names ts room refusal.Memory result room_is exit stuck = subst (IsWhole SpellsRegex regex_tree ts) (sym (exit.1 ∙ ap Err exit.2)) tt
+
+-- a list spells one tree
+pub regex_alone : (ts : List Token) (a b : RegexTree ARegex) → SpellsRegex ts a → SpellsRegex ts b → a ≡ b
+regex_alone ts a b one other =
+    let room = suc (length ts) in
+    sym one.3
+    ∙ ap (λ x. x.tree) (same one.1 other.1 one.0 other.0
+      (sym (whole_complete regex_within read_regex regex_outline right_regex ts room one.1 one.0 (omega arith) one.2)
+      ∙ whole_complete regex_within read_regex regex_outline right_regex ts room other.1 other.0 (omega arith) other.2))
+    ∙ other.3
+  where
+    same : (a b : Expression) (p q : Point) → Got a p [] ≡ Got b q [] → a ≡ b
+    same a b p q h = cc

@@ -4,6 +4,7 @@
 #![tactic(auto)]
 
 mod depth;
+mod laws;
 mod numbering;
 mod parse;
 mod part;
@@ -11,6 +12,9 @@ mod refusal;
 mod regex_part;
 mod regexes;
 mod source;
+#[cfg(test)]
+mod tests;
 
+pub use laws::a_list_spells_one_expression;
 pub use parse::parse_regex;
 pub use refusal::ParseRefusal;
