@@ -1,4 +1,7 @@
+pub mod ExpressionRight
 pub mod Loops
+pub mod Outlines
+pub mod PatternRight
 pub mod Prefixes
 pub mod RegexLemmas
 pub mod RegexRight
