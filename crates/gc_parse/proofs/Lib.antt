@@ -1,8 +1,10 @@
+pub mod ConstructRight
 pub mod ExpressionRight
 pub mod Loops
 pub mod Outlines
 pub mod PatternRight
 pub mod Prefixes
+pub mod QueryRight
 pub mod RegexLemmas
 pub mod RegexRight
 pub mod TokenKinds

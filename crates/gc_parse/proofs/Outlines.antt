@@ -92,6 +92,13 @@ located_more = link_kinds ++ word_kind (codes "ON") ∷ []
 abbrev pub located_outline : Outline
 located_outline = record { first = mark_kind mark.OpenParenthesis ∷ []; empty = false; more = located_more }
 
+-- what a CONSTRUCT makes
+abbrev pub item_more : List ℕ
+item_more = word_kind (codes "SET") ∷ word_kind (codes "REMOVE") ∷ word_kind (codes "WHEN") ∷ link_kinds ++ expr_more
+
+abbrev pub item_outline : Outline
+item_outline = record { first = name_kind ∷ mark_kind mark.OpenParenthesis ∷ []; empty = false; more = item_more }
+
 -- blocks
 abbrev pub block_more : List ℕ
 block_more = word_kind (codes "WHERE") ∷ mark_kind mark.Comma ∷ located_more ++ expr_more
@@ -112,8 +119,15 @@ term_outline = record { first = term_kinds; empty = false; more = term_more }
 abbrev pub head_kinds : List ℕ
 head_kinds = word_kind (codes "PATH") ∷ word_kind (codes "GRAPH") ∷ []
 
+abbrev pub head_more : List ℕ
+head_more = word_kind (codes "WHERE") ∷ word_kind (codes "COST") ∷ mark_kind mark.Comma ∷ link_kinds ++ expr_more
+
 abbrev pub query_outline : Outline
 query_outline = record { first = head_kinds ++ term_kinds; empty = false; more = set_op_kinds ++ term_more }
+
+-- statements
+abbrev pub statement_outline : Outline
+statement_outline = query_outline
 
 -- the readers of what brackets hold are right
 pub record InsideRight (j J : ℕ) (L M : Inside) (p q : Nested) : Type 0 where
