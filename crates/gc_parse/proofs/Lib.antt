@@ -1,4 +1,5 @@
 pub mod ConstructRight
+pub mod ExpressionLemmas
 pub mod ExpressionRight
 pub mod Loops
 pub mod Outlines

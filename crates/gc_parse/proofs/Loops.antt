@@ -1,12 +1,13 @@
 -- How the reader of any number of values goes on, turn by turn.
 use Rattle.std.proofs.Common.{◌≡◌, refl, ap, sym, ◌∙◌, ℕ, zero, suc, ◌+◌, ◌<◌, ◌-◌, true, false, if◌then◌else◌, List, [], ◌∷◌, ◌++◌, map, subst, Result, Err}
 use Rattle.gc_lex.specs.declared.token.Token.{Token}
+use Rattle.gc_ast.specs.Trees.{Tree, AQuery}
 use Rattle.gc_grammar.specs.Words.{Point}
 use Rattle.gc_grammar.specs.Kinds.{begins}
 use Rattle.gc_grammar.specs.Readers.{Reader, Reading, Got, Stuck, then_read, in_front, read_many}
 use Rattle.gc_parse.specs.declared.refusal.Refusal.{Refusal}
 use Rattle.gc_parse.specs.declared.refusal.Refusal.TheVariants as refusal
-use Rattle.gc_parse.specs.Results.{Gives}
+use Rattle.gc_parse.specs.Results.{Gives, GivesWith}
 use native.Mathlib.Omega.{arith}
 
 append_nil : {A : Type 0} (xs : List A) → xs ++ [] ≡ xs
@@ -97,3 +98,25 @@ pub loop_exits : {T U A : Type 0} (view : T → List A) (other : U → A) (token
 loop_exits view other tokens kinds p room counter front start ts whole refused result exit so_far some h stuck =
     subst (λ r. Gives view tokens r whole) (sym (exit.1 ∙ ap (Err) exit.2))
     (loop_is_stuck view other tokens kinds p room counter front start ts whole refused so_far some h stuck)
+
+-- no values before a reading leave it
+pub in_front_nothing : {A : Type 0} (r : Reading (List A)) → in_front [] r ≡ r
+in_front_nothing (Got others end rest) = refl
+in_front_nothing (Stuck k) = refl
+
+-- a turn in an expression that is refused is refused as the whole reading is
+pub loop_with_is_stuck : {T U A : Type 0} (view : T → List A) (other : U → A) (queries mine : List (Tree AQuery)) (tokens : List Token) (kinds : List ℕ) (p : Reader A) (room counter : ℕ) (front : List A) (start : Point) (ts : List Token) (whole : Reading (List A)) (refused : Refusal)
+    → in_front front (read_many kinds p (room - counter) start ts) ≡ whole → counter < room → begins kinds ts ≡ true
+    → GivesWith other mine tokens (Err refused) (p start ts) → GivesWith view queries tokens (Err refused) whole
+loop_with_is_stuck view other queries mine tokens kinds p room counter front start ts whole (refusal.Syntax k) so_far some h stuck =
+    sym so_far ∙ many_is_stuck kinds p (room - counter) front start ts k (omega (arith, some)) h stuck
+loop_with_is_stuck view other queries mine tokens kinds p room counter front start ts whole refusal.Memory so_far some h stuck = tt
+
+-- the same of a loop that ends with the refusal of a call
+pub loop_with_exits : {T U A : Type 0} (view : T → List A) (other : U → A) (queries mine : List (Tree AQuery)) (tokens : List Token) (kinds : List ℕ) (p : Reader A) (room counter : ℕ) (front : List A) (start : Point) (ts : List Token) (whole : Reading (List A)) (refused : Refusal) (result : Result (T × ℕ) Refusal)
+    → (x : Refusal) × (result ≡ Err x) × (x ≡ refused)
+    → in_front front (read_many kinds p (room - counter) start ts) ≡ whole → counter < room → begins kinds ts ≡ true
+    → GivesWith other mine tokens (Err refused) (p start ts) → GivesWith view queries tokens result whole
+loop_with_exits view other queries mine tokens kinds p room counter front start ts whole refused result exit so_far some h stuck =
+    subst (λ r. GivesWith view queries tokens r whole) (sym (exit.1 ∙ ap (Err) exit.2))
+    (loop_with_is_stuck view other queries mine tokens kinds p room counter front start ts whole refused so_far some h stuck)

@@ -3,10 +3,13 @@
 //! graph.
 #![tactic(auto)]
 
+mod chains;
 mod depth;
 mod laws;
 mod numbering;
 mod parse;
+mod literals;
+mod operators;
 mod part;
 mod refusal;
 mod regex_part;

@@ -106,6 +106,26 @@ impl<'a> Source<'a> {
         }
     }
 
+    // Whether a number stands at a place.
+    pub fn is_number_at(&self, at: u32) -> bool
+        ensures { result ≡ begins (number_kind ∷ []) (drop at self.now.tokens) }
+    {
+        match self.tokens.get(at as usize) {
+            Some(token) => is_number(token),
+            None => false,
+        }
+    }
+
+    // Whether a text stands at a place.
+    pub fn is_text_at(&self, at: u32) -> bool
+        ensures { result ≡ begins (text_kind ∷ []) (drop at self.now.tokens) }
+    {
+        match self.tokens.get(at as usize) {
+            Some(token) => is_text(token),
+            None => false,
+        }
+    }
+
     // Passes a symbol.
     pub fn mark(&self, at: u32, mark: Mark) -> Result<u32, Refusal>
         ensures { Passes (means_mark mark) self.now.tokens at result }
@@ -212,4 +232,18 @@ fn is_name(token: &Token) -> bool
         Token::Word(word) => !is_reserved(word),
         _ => false,
     }
+}
+
+// Whether a token is a number.
+fn is_number(token: &Token) -> bool
+    ensures { result ≡ among (number_kind ∷ []) (kind token.now) }
+{
+    matches!(token, Token::Number(_))
+}
+
+// Whether a token is a text.
+fn is_text(token: &Token) -> bool
+    ensures { result ≡ among (text_kind ∷ []) (kind token.now) }
+{
+    matches!(token, Token::Text(_))
 }
