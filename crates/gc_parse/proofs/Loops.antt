@@ -1,5 +1,5 @@
 -- How the reader of any number of values goes on, turn by turn.
-use Rattle.std.proofs.Common.{◌≡◌, refl, ap, sym, ◌∙◌, ℕ, zero, suc, ◌+◌, ◌<◌, ◌-◌, true, false, if◌then◌else◌, List, [], ◌∷◌, ◌++◌, map, subst, Result, Err}
+use Rattle.std.proofs.Common.{◌≡◌, refl, ap, sym, ◌∙◌, ℕ, zero, suc, ◌+◌, ◌<◌, ◌-◌, true, false, if◌then◌else◌, List, [], ◌∷◌, ◌++◌, map, subst, drop, Result, Ok, Err}
 use Rattle.gc_lex.specs.declared.token.Token.{Token}
 use Rattle.gc_ast.specs.Trees.{Tree, AQuery}
 use Rattle.gc_grammar.specs.Words.{Point}
@@ -7,7 +7,7 @@ use Rattle.gc_grammar.specs.Kinds.{begins}
 use Rattle.gc_grammar.specs.Readers.{Reader, Reading, Got, Stuck, then_read, in_front, read_many}
 use Rattle.gc_parse.specs.declared.refusal.Refusal.{Refusal}
 use Rattle.gc_parse.specs.declared.refusal.Refusal.TheVariants as refusal
-use Rattle.gc_parse.specs.Results.{Gives, GivesWith}
+use Rattle.gc_parse.specs.Results.{Gives, GivesWith, bare}
 use native.Mathlib.Omega.{arith}
 
 append_nil : {A : Type 0} (xs : List A) → xs ++ [] ≡ xs
@@ -120,3 +120,16 @@ pub loop_with_exits : {T U A : Type 0} (view : T → List A) (other : U → A) (
 loop_with_exits view other queries mine tokens kinds p room counter front start ts whole refused result exit so_far some h stuck =
     subst (λ r. GivesWith view queries tokens r whole) (sym (exit.1 ∙ ap (Err) exit.2))
     (loop_with_is_stuck view other queries mine tokens kinds p room counter front start ts whole refused so_far some h stuck)
+
+-- values that stand for themselves
+pub map_is_itself : {A : Type 0} (xs : List A) → map (λ x. x) xs ≡ xs
+map_is_itself [] = refl
+map_is_itself (x ∷ xs) = ap (λ rest. x ∷ rest) (map_is_itself xs)
+
+-- a loop that begins without values, and whose values stand for themselves
+pub list_given : {A : Type 0} (tokens : List Token) (result : Result (List A × ℕ) Refusal) (reading : Reading (List A))
+    → Gives (λ xs. map (λ x. x) xs) tokens result (in_front [] reading) → Gives (λ xs. xs) tokens result reading
+list_given tokens (Ok given) reading gives =
+    sym (in_front_nothing reading) ∙ gives ∙ ap (λ xs. Got xs (bare given.1) (drop given.1 tokens)) (map_is_itself given.0)
+list_given tokens (Err (refusal.Syntax k)) reading gives = sym (in_front_nothing reading) ∙ gives
+list_given tokens (Err refusal.Memory) reading gives = tt

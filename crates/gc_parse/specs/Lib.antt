@@ -3,6 +3,7 @@ pub mod Depths
 pub mod ExpressionReaders
 pub mod Parses
 pub mod PatternReaders
+pub mod PatternViews
 pub mod QueryReaders
 pub mod RegexReaders
 pub mod RegexViews

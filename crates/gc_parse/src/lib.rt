@@ -5,11 +5,14 @@
 
 mod chains;
 mod depth;
+mod edges;
+mod elements;
+mod labels;
 mod laws;
-mod numbering;
-mod parse;
 mod literals;
+mod numbering;
 mod operators;
+mod parse;
 mod part;
 mod refusal;
 mod regex_part;
@@ -17,6 +20,7 @@ mod regexes;
 mod source;
 #[cfg(test)]
 mod tests;
+mod unplaced;
 
 pub use laws::a_list_spells_one_expression;
 pub use parse::parse_regex;
