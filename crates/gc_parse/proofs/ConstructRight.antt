@@ -1,5 +1,5 @@
 -- The readers of what a CONSTRUCT makes are right.
-use Rattle.std.proofs.Common.{◌≡◌, refl, ℕ, suc, Bool, true, false, List, [], ◌∷◌, codes, Option}
+use Rattle.std.proofs.Common.{refl, ℕ, suc, Bool, true, false, List, [], ◌∷◌, codes, Option}
 use Rattle.gc_lex.specs.declared.token.Mark.TheVariants as mark
 use Rattle.gc_ast.specs.Trees as tree
 use Rattle.gc_ast.specs.Trees.{Tree, AChange, AnAssign}
@@ -18,7 +18,7 @@ use Rattle.gc_grammar.proofs.Taken.{taken_mark, taken_the_word, taken_name}
 use Rattle.gc_grammar.proofs.Ways.{way_last, way_not_last, way_made, way_before, way_token_behind, way_two_tokens}
 use Rattle.gc_grammar.proofs.WayChoices.{way_either, way_fork}
 use Rattle.gc_parse.specs.ExpressionReaders.{Nested}
-use Rattle.gc_parse.specs.PatternReaders.{read_in_slashes, link_kinds}
+use Rattle.gc_parse.specs.PatternReaders.{read_in_slashes}
 use Rattle.gc_parse.specs.ConstructReaders.{read_group_term, read_assign, read_assigns, read_assigns_if, read_group, read_new_label, read_new_labels, read_celement, read_cnode, read_new_edge, read_projected, read_new_stored, projected_kinds, read_new_path, read_clink, read_cchain, read_set_property, read_add_label, read_drop_property, read_drop_label, read_removal, read_sub, read_chain_item, read_item}
 use Rattle.gc_parse.proofs.Outlines.{right_outlined, expr_more, node_outline, link_outline, chain_outline, item_more, item_outline, InsideRight}
 use Rattle.gc_parse.proofs.ExpressionRight.{right_formula}

@@ -1,6 +1,7 @@
 pub mod ConstructRight
 pub mod ExpressionLemmas
 pub mod ExpressionRight
+pub mod FileRight
 pub mod Loops
 pub mod Outlines
 pub mod PatternRight
@@ -8,6 +9,8 @@ pub mod Prefixes
 pub mod QueryRight
 pub mod RegexLemmas
 pub mod RegexRight
+pub mod Statements
 pub mod TokenKinds
 pub mod Whole
+pub mod WholeLists
 pub mod WholeRegex

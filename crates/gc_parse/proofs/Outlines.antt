@@ -1,8 +1,8 @@
 -- How productions begin and with what they would go on, in as few kinds as say it.
-use Rattle.std.proofs.Common.{◌≡◌, refl, sym, ◌∙◌, ℕ, Bool, true, false, List, [], ◌∷◌, ◌++◌, codes}
+use Rattle.std.proofs.Common.{◌≡◌, ◌∙◌, ℕ, true, false, List, [], ◌∷◌, ◌++◌, codes}
 use Rattle.gc_lex.specs.declared.token.Mark.TheVariants as mark
 use Rattle.gc_lex.specs.declared.token.Token.{Token}
-use Rattle.gc_grammar.specs.Words.{Point, Lang}
+use Rattle.gc_grammar.specs.Words.{Lang}
 use Rattle.gc_grammar.specs.Kinds.{mark_kind, word_kind, number_kind, text_kind, name_kind, kind, covers}
 use Rattle.gc_grammar.specs.Readers.{Reader}
 use Rattle.gc_grammar.specs.Expressions.{Inside}

@@ -1,10 +1,9 @@
 -- The readers of patterns are right.
-use Rattle.std.proofs.Common.{◌≡◌, refl, ap, ◌∙◌, ℕ, suc, ◌+◌, ◌<◌, Bool, true, false, List, [], ◌∷◌, ◌++◌, length, codes, Option}
+use Rattle.std.proofs.Common.{◌≡◌, refl, ℕ, true, false, List, [], ◌∷◌, codes}
 use Rattle.gc_base.specs.declared.place.Direction.{Direction}
 use Rattle.gc_base.specs.declared.place.Direction.TheVariants.{Backward}
 use Rattle.gc_lex.specs.declared.token.Token.{Token}
 use Rattle.gc_lex.specs.declared.token.Mark.TheVariants as mark
-use Rattle.gc_ast.specs.Trees.{Named}
 use Rattle.gc_grammar.specs.Words.{Point, Lang, ◌⋅◌, ◌⇒◌, ◌▸◌, ◌◂◌, ◌∣◌, optional, many, mark, the_word, name}
 use Rattle.gc_grammar.specs.Kinds.{mark_kind, word_kind, number_kind, name_kind, any_word_kinds, apart}
 use Rattle.gc_grammar.specs.Readers.{Reader, Reading, Got, Stuck}
@@ -19,10 +18,10 @@ use Rattle.gc_grammar.proofs.RightChoices.{right_either, right_optional}
 use Rattle.gc_grammar.proofs.RightMany.{right_many, right_separated}
 use Rattle.gc_grammar.proofs.RightFork.{Way, right_fork_second}
 use Rattle.gc_grammar.proofs.Taken.{taken_mark}
-use Rattle.gc_grammar.proofs.Ways.{way_last, way_not_last, way_made, way_both, way_before, way_behind, way_token_behind}
+use Rattle.gc_grammar.proofs.Ways.{way_last, way_not_last, way_made, way_both, way_before, way_token_behind}
 use Rattle.gc_grammar.proofs.WayChoices.{way_either}
 use Rattle.gc_parse.specs.RegexReaders.{read_regex}
-use Rattle.gc_parse.specs.PatternReaders.{read_labels, read_label_groups, read_property_use, read_property_uses, read_name_if, read_element, read_node, read_edge_on, read_edge_back, read_edge_of, read_edge, read_angled, read_count, read_reach, read_cost_if, read_found, read_all, read_stored, read_pathbody, read_in_slashes, read_path, link_kinds, in_slashes_kinds, read_link, read_linked, read_vchain, read_chain, read_on_if, read_located}
+use Rattle.gc_parse.specs.PatternReaders.{read_labels, read_label_groups, read_property_use, read_property_uses, read_name_if, read_element, read_node, read_edge_on, read_edge_back, read_edge_of, read_edge, read_angled, read_count, read_reach, read_cost_if, read_found, read_all, read_stored, read_pathbody, read_in_slashes, read_path, link_kinds, read_link, read_linked, read_vchain, read_chain, read_on_if, read_located}
 use Rattle.gc_parse.proofs.RegexRight.{regex_outline, right_regex}
 use Rattle.gc_parse.proofs.Outlines.{right_outlined, node_outline, link_outline, chain_outline, located_outline}
 

@@ -4,17 +4,17 @@ use Rattle.std.proofs.lemmas.Bool.{eq-eqb}
 use Rattle.gc_lex.specs.declared.token.Mark.TheVariants as mark
 use Rattle.gc_ast.specs.Trees as tree
 use Rattle.gc_ast.specs.Trees.{Tree, AQuery, AHead, AStatement}
-use Rattle.gc_grammar.specs.Words.{Lang, ◌⋅◌, ◌⇒◌, ◌▸◌, ◌∣◌, optional, many, the_word}
+use Rattle.gc_grammar.specs.Words.{Lang, ◌⋅◌, ◌⇒◌, ◌▸◌, optional, many, the_word}
 use Rattle.gc_grammar.specs.Kinds.{mark_kind, word_kind, name_kind, covers}
 use Rattle.gc_grammar.specs.Readers.{Reader, read_both, read_made, read_behind, read_many, read_the_word}
 use Rattle.gc_grammar.specs.Expressions.{Expr, Inside, formula}
 use Rattle.gc_grammar.specs.Queries.{where_, block, optional_block, basic, term, named_query, path_head, head, set_op, next_term, query, statement, within}
-use Rattle.gc_grammar.specs.Right.{Right, Outline, one_of, both_of, optional_of}
+use Rattle.gc_grammar.specs.Right.{Right, Outline, one_of}
 use Rattle.gc_grammar.proofs.RightTokens.{right_mark, right_the_word}
 use Rattle.gc_grammar.proofs.RightBoth.{right_name, right_both, right_made, right_behind, right_as}
 use Rattle.gc_grammar.proofs.RightChoices.{right_either, right_optional}
 use Rattle.gc_grammar.proofs.RightMany.{right_many, right_separated}
-use Rattle.gc_grammar.proofs.RightBrackets.{Never, AllRight, StepsRight, right_nested}
+use Rattle.gc_grammar.proofs.RightBrackets.{Never, StepsRight, right_nested}
 use Rattle.gc_grammar.proofs.RightFork.{Way, right_fork}
 use Rattle.gc_grammar.proofs.Taken.{taken_the_word}
 use Rattle.gc_grammar.proofs.Ways.{way_last, way_not_last, way_made, way_token_behind}

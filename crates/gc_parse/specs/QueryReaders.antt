@@ -1,13 +1,12 @@
 -- The readers of queries and files, a production each, in the words of the grammar's readers.
-use Rattle.std.specs.Prelude.{ℕ, zero, suc, ◌+◌, List, [], ◌∷◌, codes, Option}
-use Rattle.gc_lex.specs.declared.token.Token.TheVariants.{Symbol}
+use Rattle.std.specs.Prelude.{ℕ, zero, suc, List, [], ◌∷◌, codes, Option}
 use Rattle.gc_lex.specs.declared.token.Mark.TheVariants as mark
 use Rattle.gc_ast.specs.declared.query.SetOp.{SetOp}
 use Rattle.gc_ast.specs.declared.query.SetOp.TheVariants.{Union, Intersect, Minus}
 use Rattle.gc_ast.specs.Trees as tree
 use Rattle.gc_ast.specs.Trees.{Tree, AStatement, AQuery, ANextTerm, ATerm, AHead, ABasic, ABlock, AFormula, AnOptional, Named, row, rows, maybe}
 use Rattle.gc_grammar.specs.Kinds.{mark_kind, word_kind, name_kind}
-use Rattle.gc_grammar.specs.Readers.{Reader, Got, Stuck, stuck, then_read, in_front, read_both, read_made, read_behind, read_either, read_fork, read_optional, read_many, read_separated, read_as, read_mark, read_the_word, read_name}
+use Rattle.gc_grammar.specs.Readers.{Reader, Got, stuck, read_both, read_made, read_behind, read_either, read_fork, read_optional, read_many, read_separated, read_as, read_mark, read_the_word, read_name}
 use Rattle.gc_grammar.specs.Queries.{as_term, as_query}
 use Rattle.gc_parse.specs.ExpressionReaders.{Nested, read_formula, read_expr, read_in_parentheses}
 use Rattle.gc_parse.specs.PatternReaders.{read_vchain, read_located}
@@ -100,17 +99,19 @@ unfoldable pub read_statement : ℕ → Nested → Reader (Tree AStatement)
 read_statement room inside =
     read_fork view_kinds (read_view_statement inside) (read_made (read_query room inside) λ n v. tree.Ask v)
 
--- what follows a statement: the end, with or without a last `;`, or `;` and the later statements
-unfoldable pub read_later : ℕ → Nested → ℕ → Reader (List (Tree AStatement))
-read_later room inside zero p ts = Stuck p.token
-read_later room inside (suc turns) p [] = Got [] p []
-read_later room inside (suc turns) p (Symbol mark.Semicolon ∷ []) = Got [] (record { token = p.token + 1; exists = p.exists }) []
-read_later room inside (suc turns) p (Symbol mark.Semicolon ∷ token ∷ ts) =
-    then_read (read_statement room inside (record { token = p.token + 1; exists = p.exists }) (token ∷ ts)) λ statement. λ end rest.
-    in_front (statement ∷ []) (read_later room inside turns end rest)
-read_later room inside (suc turns) p (token ∷ ts) = Stuck p.token
+-- none at the end of the list, and else what a reader gives
+unfoldable pub read_unless_end : {A : Type 0} → Reader (List A) → Reader (List A)
+read_unless_end p start [] = Got [] start []
+read_unless_end p start (token ∷ ts) = p start (token ∷ ts)
+
+-- what follows a statement up to the end of the list: none, with or without a last `;`, or `;` and others
+unfoldable pub read_later : {A : Type 0} → Reader A → ℕ → Reader (List A)
+read_later statement zero = stuck
+read_later statement (suc turns) =
+    read_unless_end
+    (read_behind (read_mark mark.Semicolon) (read_unless_end (read_made (read_both statement (read_later statement turns)) λ n v. v.0 ∷ v.1)))
 
 -- a whole file
 unfoldable pub read_file : ℕ → Nested → Reader (List (Tree AStatement))
-read_file room inside p ts =
-    then_read (read_statement room inside p ts) λ statement. λ end rest. in_front (statement ∷ []) (read_later room inside room end rest)
+read_file room inside =
+    read_made (read_both (read_statement room inside) (read_later (read_statement room inside) room)) λ n v. v.0 ∷ v.1
