@@ -1,5 +1,5 @@
 -- The readers of what brackets hold where they have room, and the parts of expressions.
-use Rattle.std.proofs.Common.{◌≡◌, refl, ap, sym, ◌∙◌, ℕ, zero, suc, ◌+◌, ◌<◌, ◌-◌, ◌&&◌, List, [], ◌∷◌, ◌++◌, length, map, drop, get_or}
+use Rattle.std.proofs.Common.{◌≡◌, refl, ap, ◌∙◌, ℕ, zero, suc, ◌+◌, ◌<◌, ◌-◌, ◌&&◌, List, [], ◌∷◌, ◌++◌, length, map, drop, get_or}
 use Rattle.gc_lex.specs.declared.token.Token.{Token}
 use Rattle.gc_expr.specs.declared.expr.Expr.{Expr}
 use Rattle.gc_expr.specs.declared.expr.SumPart.{SumPart}

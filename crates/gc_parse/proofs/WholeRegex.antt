@@ -70,8 +70,8 @@ regex_alone ts a b one other =
     let room = suc (length ts) in
     sym one.3
     ∙ ap (λ x. x.tree) (same one.1 other.1 one.0 other.0
-      (sym (whole_complete regex_within read_regex regex_outline right_regex ts room one.1 one.0 (omega arith) one.2)
-      ∙ whole_complete regex_within read_regex regex_outline right_regex ts room other.1 other.0 (omega arith) other.2))
+    (sym (whole_complete regex_within read_regex regex_outline right_regex ts room one.1 one.0 (omega arith) one.2)
+    ∙ whole_complete regex_within read_regex regex_outline right_regex ts room other.1 other.0 (omega arith) other.2))
     ∙ other.3
   where
     same : (a b : Expression) (p q : Point) → Got a p [] ≡ Got b q [] → a ≡ b

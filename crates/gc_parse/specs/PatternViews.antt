@@ -1,5 +1,5 @@
 -- What elements of patterns without their tokens are as plain trees.
-use Rattle.std.specs.Prelude.{ℕ, List, map}
+use Rattle.std.specs.Prelude.{ℕ, map}
 use Rattle.gc_base.specs.declared.place.Direction.{Direction}
 use Rattle.gc_expr.specs.Views.{Names, name_of}
 use Rattle.gc_ast.specs.declared.pattern.Element.{Element}

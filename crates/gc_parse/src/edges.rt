@@ -14,11 +14,7 @@ use gc_lex::Mark;
 
 #[tactic(auto, unfolding(crate::specs::PatternReaders::read_edge_on))]
 // `-` `[` element `]` `-` [ `>` ]
-fn edge_on(
-    source: &Source,
-    room: u64,
-    at: u32,
-) -> Result<((PlainElement, Direction), u32), Refusal>
+fn edge_on(source: &Source, room: u64, at: u32) -> Result<((PlainElement, Direction), u32), Refusal>
     ensures { Gives (edge_view source.now.names) source.now.tokens result (read_edge_on (read_element room) (bare at) (drop at source.now.tokens)) }
 {
     let at = source.mark(at, Mark::Minus)?;
@@ -53,11 +49,7 @@ fn edge_back(
 
 #[tactic(auto, unfolding(crate::specs::PatternReaders::read_edge_of))]
 // `-` `[` element `]` `-` [ `>` ] | `<` `-` `[` element `]` `-`
-fn edge_of(
-    source: &Source,
-    room: u64,
-    at: u32,
-) -> Result<((PlainElement, Direction), u32), Refusal>
+fn edge_of(source: &Source, room: u64, at: u32) -> Result<((PlainElement, Direction), u32), Refusal>
     ensures { Gives (edge_view source.now.names) source.now.tokens result (read_edge_of (read_element room) (bare at) (drop at source.now.tokens)) }
 {
     if source.is_at(at, Mark::Minus) {

@@ -91,21 +91,31 @@ fn later_use(source: &Source, at: u32) -> Result<(PropertyUse, u32), Refusal>
 
 #[tactic(auto, unfolding(crate::specs::PatternReaders::read_element))]
 // element = [ name ] { labels } [ `{` word `=` name { `,` word `=` name } `}` ]
-pub(crate) fn element(
-    source: &Source,
-    room: u64,
-    at: u32,
-) -> Result<(PlainElement, u32), Refusal>
+pub(crate) fn element(source: &Source, room: u64, at: u32) -> Result<(PlainElement, u32), Refusal>
     ensures { Gives (plain_element_view source.now.names) source.now.tokens result (read_element room (bare at) (drop at source.now.tokens)) }
 {
     let (name, at) = name_if(source, at)?;
     let (labels, at) = label_groups(source, room, at)?;
     if !source.is_at(at, Mark::OpenBrace) {
         let properties = Sequence::new(source.alloc());
-        return Ok((PlainElement { name, labels, properties }, at));
+        return Ok((
+            PlainElement {
+                name,
+                labels,
+                properties,
+            },
+            at,
+        ));
     }
     let (properties, at) = property_uses(source, room, at)?;
-    Ok((PlainElement { name, labels, properties }, at))
+    Ok((
+        PlainElement {
+            name,
+            labels,
+            properties,
+        },
+        at,
+    ))
 }
 
 // An element whose pattern begins at a token.

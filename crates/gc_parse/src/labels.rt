@@ -73,11 +73,7 @@ pub(crate) fn label_groups(
 }
 
 #[tactic(auto, unfolding(crate::specs::PatternReaders::read_label_groups))]
-fn many_labels(
-    source: &Source,
-    room: u64,
-    from: u32,
-) -> Result<(LabelGroupList, u32), Refusal>
+fn many_labels(source: &Source, room: u64, from: u32) -> Result<(LabelGroupList, u32), Refusal>
     ensures { Gives (λ groups. map (λ g. g) groups) source.now.tokens result (in_front [] (read_label_groups room (bare from) (drop from source.now.tokens))) }
 {
     let mut groups = Sequence::new(source.alloc());

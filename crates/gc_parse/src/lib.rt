@@ -1,6 +1,6 @@
-//! The parser of query files: the one tree of a token list, or the token from which on there is none.
-//! Others rely on `parse` and `parse_regex` alone. This crate knows the grammar, and no text and no
-//! graph.
+//! The parser: the one tree of a token list, or the token up to which no list spells one.
+//! Others rely on `parse_regex` alone so far; the readers of all productions are proved right, and the
+//! code of query files comes. This crate knows the grammar, and no text and no graph.
 #![tactic(auto)]
 
 mod chains;
@@ -22,6 +22,8 @@ mod source;
 mod tests;
 mod unplaced;
 
-pub use laws::a_list_spells_one_expression;
+pub use laws::{
+    a_list_spells_one_expression, a_list_spells_one_file, the_reader_of_files_is_right,
+};
 pub use parse::parse_regex;
 pub use refusal::ParseRefusal;

@@ -4,13 +4,11 @@ ghost use Rattle.gc_expr.specs.Trees as tree;
 ghost use Rattle.gc_expr.specs.Trees.{At};
 ghost use Rattle.gc_expr.specs.Views.{expr_tree};
 ghost use Rattle.gc_grammar.specs.Readers.{read_made, read_number, read_text, read_name, read_the_word};
-ghost use Rattle.gc_parse.specs.ExpressionReaders.{read_length, read_rows};
 ghost use Rattle.gc_parse.specs.Results.{GivesWith, point};
 
 use crate::refusal::Refusal;
 use crate::source::Source;
 use gc_expr::Expr;
-use gc_lex::Mark;
 
 // A number.
 pub(crate) fn number(source: &Source, at: u32) -> Result<(Expr, u32), Refusal>
@@ -50,28 +48,4 @@ pub(crate) fn variable(source: &Source, at: u32) -> Result<(Expr, u32), Refusal>
 {
     let (name, next) = source.name(at)?;
     Ok((Expr::var(at, name.sym), next))
-}
-
-#[tactic(auto, unfolding(crate::specs::ExpressionReaders::read_length))]
-// `length` `(` name `)`
-pub(crate) fn length(source: &Source, from: u32) -> Result<(Expr, u32), Refusal>
-    ensures { (queries : List (Tree AQuery)) → GivesWith (expr_tree source.now.names) queries source.now.tokens result (read_length (point from queries) (drop from source.now.tokens)) }
-{
-    let at = source.the_word(from, "length")?;
-    let at = source.mark(at, Mark::OpenParenthesis)?;
-    let (path, at) = source.name(at)?;
-    let at = source.mark(at, Mark::CloseParenthesis)?;
-    Ok((Expr::length(from, path.sym), at))
-}
-
-#[tactic(auto, unfolding(crate::specs::ExpressionReaders::read_rows))]
-// `COUNT` `(` `*` `)`
-pub(crate) fn row_count(source: &Source, from: u32) -> Result<(Expr, u32), Refusal>
-    ensures { (queries : List (Tree AQuery)) → GivesWith (expr_tree source.now.names) queries source.now.tokens result (read_rows (point from queries) (drop from source.now.tokens)) }
-{
-    let at = source.the_word(from, "COUNT")?;
-    let at = source.mark(at, Mark::OpenParenthesis)?;
-    let at = source.mark(at, Mark::Star)?;
-    let at = source.mark(at, Mark::CloseParenthesis)?;
-    Ok((Expr::rows(from), at))
 }
