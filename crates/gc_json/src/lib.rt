@@ -17,6 +17,8 @@ mod paths;
 mod properties;
 mod refusal;
 mod taken;
+#[cfg(test)]
+mod tests;
 mod text;
 mod values;
 mod walks;
