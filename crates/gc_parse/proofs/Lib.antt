@@ -1,5 +1,4 @@
 pub mod ConstructRight
-pub mod ExpressionLemmas
 pub mod ExpressionRight
 pub mod FileRight
 pub mod Loops
