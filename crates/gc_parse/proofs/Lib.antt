@@ -1,7 +1,9 @@
 pub mod ConstructRight
 pub mod ExpressionRight
 pub mod FileRight
+pub mod Fronts
 pub mod Loops
+pub mod NestedRooms
 pub mod Outlines
 pub mod PatternRight
 pub mod Prefixes

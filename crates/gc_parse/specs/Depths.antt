@@ -1,5 +1,5 @@
 -- Brackets that are too deep.
-use Rattle.std.specs.Prelude.{ℕ, ◌+◌, ◌<◌, ◌≤◌, Bool, true, false, List, length, take, Option, Some, None, if◌then◌else◌}
+use Rattle.std.specs.Prelude.{ℕ, zero, suc, ◌+◌, ◌<◌, ◌≤◌, Bool, true, false, List, length, take, nat_lt, Option, Some, None, if◌then◌else◌}
 use Rattle.gc_lex.specs.declared.token.Token.{Token}
 use Rattle.gc_lex.specs.declared.token.Token.TheVariants.{Symbol}
 use Rattle.gc_lex.specs.declared.token.Mark.{Mark}
@@ -40,3 +40,16 @@ IsTooDeep ts = length (filter is_closing ts) + 64 < length (filter is_opening ts
 abbrev pub IsDepthFault : List Token → Option ℕ → Type 0
 IsDepthFault ts None = (n : ℕ) → IsTooDeep (take n ts) → ⊥
 IsDepthFault ts (Some k) = IsTooDeep (take (k + 1) ts) × ((n : ℕ) → n ≤ k → IsTooDeep (take n ts) → ⊥)
+
+-- whether they are
+abbrev pub is_too_deep : List Token → Bool
+is_too_deep ts = nat_lt (length (filter is_closing ts) + 64) (length (filter is_opening ts))
+
+-- the first of so many numbers from one on that passes a test
+abbrev pub first_from : (ℕ → Bool) → (from count : ℕ) → Option ℕ
+first_from test from zero = None
+first_from test from (suc count) = if test from then Some from else first_from test (suc from) count
+
+-- the number of the first token with which the brackets are too deep, if there is one
+abbrev pub depth_fault_in : List Token → Option ℕ
+depth_fault_in ts = first_from (λ k. is_too_deep (take (k + 1) ts)) 0 (length ts)

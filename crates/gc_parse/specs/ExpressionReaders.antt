@@ -70,15 +70,18 @@ read_literal other =
     (read_either (word_kind (codes "FALSE") ∷ []) (read_made (read_the_word (codes "FALSE")) λ n v. At n (tree.Truth false))
     (read_either (name_kind ∷ []) (read_made read_name λ n v. At n (tree.Var v.name)) other))))
 
-unfoldable pub read_prim : Nested → Reader Expr
-read_prim inside =
-    read_literal
-    (read_either (mark_kind mark.OpenParenthesis ∷ []) (read_in_parentheses inside.expr)
+-- what else a primary may be: it has parentheses
+abbrev pub read_call : Nested → Reader Expr
+read_call inside =
+    read_either (mark_kind mark.OpenParenthesis ∷ []) (read_in_parentheses inside.expr)
     (read_either (word_kind (codes "EXISTS") ∷ []) (read_exists inside)
     (read_either (word_kind (codes "nodes") ∷ []) (read_indexed (codes "nodes") tree.NodeAt inside)
     (read_either (word_kind (codes "edges") ∷ []) (read_indexed (codes "edges") tree.EdgeAt inside)
     (read_either (word_kind (codes "length") ∷ []) read_length
-    (read_fork count_of_rows read_rows (read_aggregate inside)))))))
+    (read_fork count_of_rows read_rows (read_aggregate inside))))))
+
+unfoldable pub read_prim : Nested → Reader Expr
+read_prim inside = read_literal (read_call inside)
 
 unfoldable pub read_suffix : Reader Suffix
 read_suffix =

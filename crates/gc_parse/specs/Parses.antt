@@ -1,15 +1,15 @@
 -- What a parse of a token list is.
-use Rattle.std.specs.Prelude.{◌≡◌, ◌+◌, ◌≤◌, List, length, take, Result, Ok, Err, Some, None, ℕ, ◌-◌}
+use Rattle.std.specs.Prelude.{◌≡◌, ◌+◌, ◌≤◌, List, length, take, Option, Result, Ok, Err, Some, None, ℕ, ◌-◌}
 use Rattle.gc_lex.specs.declared.token.Token.{Token}
 use Rattle.gc_parse.specs.declared.refusal.ParseRefusal.{ParseRefusal}
 use Rattle.gc_parse.specs.declared.refusal.ParseRefusal.TheVariants.{TooDeep, Syntax, Memory}
 use Rattle.gc_parse.specs.declared.refusal.Refusal.{Refusal}
 use Rattle.gc_parse.specs.declared.refusal.Refusal.TheVariants as refusal
 use Rattle.gc_ast.specs.Trees.{Tree, AStatement}
-use Rattle.gc_grammar.specs.Readers.{Reading}
+use Rattle.gc_grammar.specs.Readers.{Reading, Got, Stuck}
 use Rattle.gc_grammar.specs.Queries.{start}
 use Rattle.gc_parse.specs.QueryReaders.{nested, read_file}
-use Rattle.gc_parse.specs.Depths.{IsDepthFault}
+use Rattle.gc_parse.specs.Depths.{IsDepthFault, depth_fault_in}
 
 -- a number is at most that of the tokens, and no list that agrees up to and including that token
 -- spells a value
@@ -38,3 +38,24 @@ IsWhole Spells view ts (Err refusal.Memory) = Unit {0}
 -- what the reader of whole files gives for a list of fewer tokens than the room
 abbrev pub file_reading : ℕ → List Token → Reading (List (Tree AStatement))
 file_reading room ts = read_file room (nested (room - 1)) start ts
+
+-- what a reading of a whole file means: its statements, or the token that it cannot go past
+abbrev pub read_whole : Reading (List (Tree AStatement)) → Result (List (Tree AStatement)) ParseRefusal
+read_whole (Got statements end rest) = Ok statements
+read_whole (Stuck k) = Err (Syntax k)
+
+-- where the brackets are not too deep, a reading counts
+abbrev pub unless_deep : Option ℕ → Result (List (Tree AStatement)) ParseRefusal → Result (List (Tree AStatement)) ParseRefusal
+unless_deep (Some k) due = Err (TooDeep k)
+unless_deep None due = due
+
+-- the statements of a query file, or its refusal
+unfoldable pub parsed : List Token → Result (List (Tree AStatement)) ParseRefusal
+parsed ts = unless_deep (depth_fault_in ts) (read_whole (file_reading (length ts + 1) ts))
+
+-- what is due is given, but for want of memory
+abbrev pub IsDueParse : {T A : Type 0} → (T → A) → Result A ParseRefusal → Result T ParseRefusal → Type 0
+IsDueParse view due (Ok t) = due ≡ Ok (view t)
+IsDueParse view due (Err (TooDeep k)) = due ≡ Err (TooDeep k)
+IsDueParse view due (Err (Syntax k)) = due ≡ Err (Syntax k)
+IsDueParse view due (Err Memory) = Unit {0}

@@ -6,7 +6,8 @@ use Rattle.gc_expr.specs.Views.{Names}
 use Rattle.gc_ast.specs.declared.query.Query.{Query}
 use Rattle.gc_ast.specs.QueryViews.{query_tree}
 use Rattle.gc_grammar.specs.Words.{Point}
-use Rattle.gc_grammar.specs.Readers.{Reading, Got, Stuck, first_means, behind}
+use Rattle.gc_grammar.specs.Readers.{Reader, Reading, Got, Stuck, first_means, behind}
+use Rattle.gc_parse.specs.Sources.{Tokens}
 use Rattle.gc_parse.specs.declared.refusal.Refusal.{Refusal}
 use Rattle.gc_parse.specs.declared.refusal.Refusal.TheVariants as refusal
 use Rattle.gc_parse.specs.declared.refusal.ParseRefusal.{ParseRefusal}
@@ -42,6 +43,11 @@ abbrev pub GivesWith : {T A : Type 0} → (T → A) → List (Tree AQuery) → L
 GivesWith view queries tokens (Ok given) reading = reading ≡ Got (view given.0) (point given.1 queries) (drop given.1 tokens)
 GivesWith view queries tokens (Err (refusal.Syntax k)) reading = reading ≡ Stuck k
 GivesWith view queries tokens (Err refusal.Memory) reading = Unit {0}
+
+-- the same of a function that puts the EXISTS queries that it meets behind those before it
+abbrev pub ReadsWith : {T A : Type 0} → (T → A) → Tokens → ℕ → (before after : List Query) → Result (T × ℕ) Refusal → Reader A → Type 0
+ReadsWith view source at before after result reader =
+    GivesWith view (queries_view source.names after) source.tokens result (reader (point at (queries_view source.names before)) (drop at source.tokens))
 
 -- a token that means nothing more was passed
 abbrev pub Passes : (Token → Option (Unit {0})) → List Token → ℕ → Result ℕ Refusal → Type 0

@@ -7,13 +7,17 @@ mod chains;
 mod depth;
 mod edges;
 mod elements;
+mod expressions;
+mod forks;
 mod labels;
 mod laws;
+mod links;
 mod literals;
 mod numbering;
 mod operators;
 mod parse;
 mod part;
+mod queries;
 mod refusal;
 mod regex_part;
 mod regexes;
@@ -25,5 +29,5 @@ mod unplaced;
 pub use laws::{
     a_list_spells_one_expression, a_list_spells_one_file, the_reader_of_files_is_right,
 };
-pub use parse::parse_regex;
+pub use parse::{parse, parse_regex};
 pub use refusal::ParseRefusal;

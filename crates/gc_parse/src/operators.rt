@@ -1,6 +1,8 @@
-ghost use Rattle.std.specs.Prelude.{◌≡◌, drop, List, codes};
+ghost use Rattle.std.specs.Prelude.{◌≡◌, ◌∷◌, [], drop, List, codes};
 ghost use Rattle.gc_ast.specs.Trees.{Tree, AQuery};
-ghost use Rattle.gc_parse.specs.ExpressionReaders.{read_sign, read_product_op, read_comparison, read_folding};
+ghost use Rattle.gc_lex.specs.declared.token.Mark.TheVariants as mark;
+ghost use Rattle.gc_grammar.specs.Kinds.{begins, mark_kind};
+ghost use Rattle.gc_parse.specs.ExpressionReaders.{comparison_kinds, product_kinds, read_sign, read_product_op, read_comparison, read_folding};
 ghost use Rattle.gc_parse.specs.Results.{GivesWith, point};
 
 use crate::refusal::Refusal;
@@ -79,4 +81,32 @@ pub(crate) fn folding(source: &Source, at: u32) -> Result<(Fold, u32), Refusal>
     } else {
         Ok((Fold::Collect, source.the_word(at, "COLLECT")?))
     }
+}
+
+// Whether `+` or `-` stands at a place.
+pub(crate) fn is_sign_at(source: &Source, at: u32) -> bool
+    ensures { result ≡ begins (mark_kind mark.Plus ∷ mark_kind mark.Minus ∷ []) (drop at source.now.tokens) }
+{
+    source.is_at(at, Mark::Plus) || source.is_at(at, Mark::Minus)
+}
+
+// Whether an operator of a product stands at a place.
+pub(crate) fn is_product_op_at(source: &Source, at: u32) -> bool
+    ensures { result ≡ begins product_kinds (drop at source.now.tokens) }
+{
+    source.is_at(at, Mark::Star) || source.is_at(at, Mark::Slash) || source.is_at(at, Mark::Percent)
+}
+
+// Whether a comparison stands at a place.
+pub(crate) fn is_comparison_at(source: &Source, at: u32) -> bool
+    ensures { result ≡ begins comparison_kinds (drop at source.now.tokens) }
+{
+    source.is_at(at, Mark::Equals)
+        || source.is_at(at, Mark::Differs)
+        || source.is_at(at, Mark::Less)
+        || source.is_at(at, Mark::AtMost)
+        || source.is_at(at, Mark::Greater)
+        || source.is_at(at, Mark::AtLeast)
+        || source.is_word_at(at, "IN")
+        || source.is_word_at(at, "SUBSET")
 }

