@@ -1,4 +1,5 @@
 pub mod ConstructRight
+pub mod DepthFaults
 pub mod ExpressionRight
 pub mod FileRight
 pub mod Fronts
@@ -10,8 +11,9 @@ pub mod Prefixes
 pub mod QueryRight
 pub mod RegexLemmas
 pub mod RegexRight
-pub mod Statements
+pub mod StatementLists
 pub mod TokenKinds
 pub mod Whole
+pub mod WholeFile
 pub mod WholeLists
 pub mod WholeRegex

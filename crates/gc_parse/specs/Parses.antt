@@ -59,3 +59,9 @@ IsDueParse view due (Ok t) = due ≡ Ok (view t)
 IsDueParse view due (Err (TooDeep k)) = due ≡ Err (TooDeep k)
 IsDueParse view due (Err (Syntax k)) = due ≡ Err (Syntax k)
 IsDueParse view due (Err Memory) = Unit {0}
+
+-- the same where no bracket is too deep
+abbrev pub IsDueWhole : {T A : Type 0} → (T → A) → Result A ParseRefusal → Result T Refusal → Type 0
+IsDueWhole view due (Ok t) = due ≡ Ok (view t)
+IsDueWhole view due (Err (refusal.Syntax k)) = due ≡ Err (Syntax k)
+IsDueWhole view due (Err refusal.Memory) = Unit {0}

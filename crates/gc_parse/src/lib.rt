@@ -15,13 +15,15 @@ mod links;
 mod literals;
 mod numbering;
 mod operators;
-mod parse;
+mod parsing;
 mod part;
+mod primaries;
 mod queries;
 mod refusal;
 mod regex_part;
 mod regexes;
 mod source;
+mod statements;
 #[cfg(test)]
 mod tests;
 mod unplaced;
@@ -29,5 +31,5 @@ mod unplaced;
 pub use laws::{
     a_list_spells_one_expression, a_list_spells_one_file, the_reader_of_files_is_right,
 };
-pub use parse::{parse, parse_regex};
+pub use parsing::{parse, parse_regex};
 pub use refusal::ParseRefusal;

@@ -3,15 +3,12 @@ ghost use Rattle.gc_ast.specs.Trees.{Tree, AQuery};
 ghost use Rattle.gc_expr.specs.Trees as tree;
 ghost use Rattle.gc_expr.specs.Trees.{At};
 ghost use Rattle.gc_expr.specs.Views.{expr_tree};
-ghost use Rattle.gc_grammar.specs.Readers.{read_made, read_number, read_text, read_name, read_the_word, read_behind};
-ghost use Rattle.gc_base.specs.Words.{is_reserved};
-ghost use Rattle.gc_ast.specs.PatternViews.{named};
-ghost use Rattle.gc_parse.specs.ExpressionReaders.{read_in_parentheses, read_length, read_rows};
+ghost use Rattle.gc_grammar.specs.Readers.{read_made, read_number, read_text, read_name, read_the_word};
+ghost use Rattle.gc_parse.specs.ExpressionReaders.{read_length, read_rows};
 ghost use Rattle.gc_parse.specs.Results.{GivesWith, point};
 
 use crate::refusal::Refusal;
 use crate::source::Source;
-use gc_base::NameAt;
 use gc_expr::Expr;
 use gc_lex::Mark;
 
@@ -55,26 +52,17 @@ pub(crate) fn variable(source: &Source, at: u32) -> Result<(Expr, u32), Refusal>
     Ok((Expr::var(at, name.sym), next))
 }
 
-#[tactic(auto, unfolding(crate::specs::ExpressionReaders::read_in_parentheses))]
-// A word, and `(` name `)` behind it.
-pub(crate) fn path_name(source: &Source, at: u32, word: &str) -> Result<(NameAt, u32), Refusal>
-    requires { is_reserved word.now ≡ true }
-    ensures { (queries : List (Tree AQuery)) → GivesWith (named source.now.names) queries source.now.tokens result (read_behind (read_the_word word.now) (read_in_parentheses read_name) (point at queries) (drop at source.now.tokens)) }
-{
-    let at = source.the_word(at, word)?;
-    let at = source.mark(at, Mark::OpenParenthesis)?;
-    let (name, at) = source.name(at)?;
-    let at = source.mark(at, Mark::CloseParenthesis)?;
-    Ok((name, at))
-}
-
-#[tactic(auto, unfolding(crate::specs::ExpressionReaders::read_length))]
+#[tactic(auto, unfolding(crate::specs::ExpressionReaders::read_length, crate::specs::ExpressionReaders::read_in_parentheses))]
 // `length` `(` name `)`
 pub(crate) fn length_of(source: &Source, at: u32) -> Result<(Expr, u32), Refusal>
     ensures { (queries : List (Tree AQuery)) → GivesWith (expr_tree source.now.names) queries source.now.tokens result (read_length (point at queries) (drop at source.now.tokens)) }
 {
-    let (path, next) = path_name(source, at, "length")?;
-    Ok((Expr::length(at, path.sym), next))
+    let token = at;
+    let at = source.the_word(at, "length")?;
+    let at = source.mark(at, Mark::OpenParenthesis)?;
+    let (path, at) = source.name(at)?;
+    let at = source.mark(at, Mark::CloseParenthesis)?;
+    Ok((Expr::length(token, path.sym), at))
 }
 
 #[tactic(auto, unfolding(crate::specs::ExpressionReaders::read_rows, crate::specs::ExpressionReaders::read_in_parentheses))]

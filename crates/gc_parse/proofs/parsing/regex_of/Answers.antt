@@ -2,7 +2,7 @@ use Rattle.std.proofs.Common.{◌+◌}
 use Rattle.std.proofs.lemmas.Result.{err_from_is_err_and}
 use Rattle.gc_parse.specs.RegexViews.{part_view}
 use Rattle.gc_parse.proofs.WholeRegex.{regex_found, regex_left, regex_exits}
-use Rattle.gc_parse.proofs.parse.regex_of.Goals as goal
+use Rattle.gc_parse.proofs.parsing.regex_of.Goals as goal
 use native.Mathlib.Omega.{arith}
 
 pub returns : goal.returns

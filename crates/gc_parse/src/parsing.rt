@@ -1,14 +1,16 @@
-ghost use Rattle.std.specs.Prelude.{◌≡◌, ◌++◌, ◌∷◌, [], IfOk};
-ghost use Rattle.gc_ast.specs.QueryViews.{file_trees};
+ghost use Rattle.std.specs.Prelude.{◌≡◌, ◌+◌, ◌++◌, ◌∷◌, [], length, map, take, IfOk};
+ghost use Rattle.gc_ast.specs.QueryViews.{file_trees, statement_tree};
 ghost use Rattle.gc_regx.specs.Views.{regex_tree};
 ghost use Rattle.gc_grammar.specs.Queries.{SpellsFile, SpellsRegex};
-ghost use Rattle.gc_parse.specs.Parses.{IsDueParse, IsParse, IsWhole, parsed};
+ghost use Rattle.gc_parse.specs.Parses.{IsDueParse, IsDueWhole, IsParse, IsWhole, file_reading, parsed, read_whole};
 
 use crate::depth::depth_fault;
 use crate::refusal::{ParseRefusal, Refusal};
 use crate::regexes::regex;
 use crate::source::Source;
-use gc_ast::File;
+use crate::statements::file_statements;
+use gc_ast::{File, PlaceList, StatementList};
+use gc_base::Memory;
 use gc_lex::Tokens;
 use gc_regx::Regex;
 use std::alloc::Global;
@@ -57,5 +59,42 @@ pub fn parse(alloc: Global, tokens: &Tokens) -> Result<File, ParseRefusal>
     ensures due { IsDueParse file_trees (parsed tokens.now.tokens) result }
     ensures places { IfOk result (λ file. file.places ++ file.end ∷ [] ≡ tokens.now.places) }
 {
-    Err(ParseRefusal::Memory)
+    if let Some(number) = depth_fault(tokens) {
+        return Err(ParseRefusal::TooDeep(number));
+    }
+    Ok(whole_file(alloc, tokens)?)
+}
+
+// The same where the brackets are not too deep.
+fn whole_file(alloc: Global, tokens: &Tokens) -> Result<File, Refusal>
+    ensures right { IsWhole SpellsFile file_trees tokens.now.tokens result }
+    ensures due { IsDueWhole file_trees (read_whole (file_reading (length tokens.now.tokens + 1) tokens.now.tokens)) result }
+    ensures places { IfOk result (λ file. file.places ++ file.end ∷ [] ≡ tokens.now.places) }
+{
+    let source = Source::of(alloc, tokens)?;
+    let statements = statements_of(&source)?;
+    let places = places_of(alloc, tokens)?;
+    let end = tokens.place(tokens.len());
+    Ok(File::of(statements, source.into_names(), places, end))
+}
+
+// The statements that all tokens spell.
+fn statements_of(source: &Source) -> Result<StatementList, Refusal>
+    ensures right { IsWhole SpellsFile (λ statements. map (statement_tree source.now.names) statements.items) source.now.tokens result }
+    ensures due { IsDueWhole (λ statements. map (statement_tree source.now.names) statements.items) (read_whole (file_reading (length source.now.tokens + 1) source.now.tokens)) result }
+{
+    let room = u64::from(source.len()) + 1;
+    let (statements, _) = file_statements(source, room, 0)?;
+    Ok(statements)
+}
+
+// The places of all tokens.
+fn places_of(alloc: Global, tokens: &Tokens) -> Result<PlaceList, Memory>
+    ensures { IfOk result (λ places. places ≡ take (length tokens.now.tokens) tokens.now.places) }
+{
+    let mut places = PlaceList::new(alloc);
+    for number in 0..tokens.len() {
+        places.push(tokens.place(number))?;
+    }
+    Ok(places)
 }
