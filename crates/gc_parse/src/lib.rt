@@ -4,6 +4,7 @@
 #![tactic(auto)]
 
 mod chains;
+mod changes;
 mod depth;
 mod edges;
 mod elements;
