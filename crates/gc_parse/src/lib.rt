@@ -18,6 +18,7 @@ mod numbering;
 mod operators;
 mod parse;
 mod part;
+mod paths;
 mod queries;
 mod refusal;
 mod regex_part;
