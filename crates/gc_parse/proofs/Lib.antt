@@ -2,6 +2,7 @@ pub mod ConstructRight
 pub mod ExpressionRight
 pub mod FileRight
 pub mod Fronts
+pub mod LinkLoops
 pub mod Loops
 pub mod NestedRooms
 pub mod Outlines
