@@ -3,6 +3,7 @@ pub mod DepthFaults
 pub mod ExpressionRight
 pub mod FileRight
 pub mod Fronts
+pub mod LinkLoops
 pub mod Loops
 pub mod NestedRooms
 pub mod Outlines

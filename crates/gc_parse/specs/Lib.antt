@@ -1,6 +1,7 @@
 pub mod ConstructReaders
 pub mod Depths
 pub mod ExpressionReaders
+pub mod LinkViews
 pub mod Parses
 pub mod PatternReaders
 pub mod PatternViews

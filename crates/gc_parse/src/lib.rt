@@ -4,6 +4,7 @@
 #![tactic(auto)]
 
 mod chains;
+mod changes;
 mod depth;
 mod edges;
 mod elements;
@@ -17,6 +18,7 @@ mod numbering;
 mod operators;
 mod parsing;
 mod part;
+mod paths;
 mod primaries;
 mod queries;
 mod refusal;
