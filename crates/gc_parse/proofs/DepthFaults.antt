@@ -6,25 +6,28 @@ use Rattle.gc_lex.specs.declared.token.Token.{Token}
 use Rattle.gc_parse.specs.Depths.{IsTooDeep, IsDepthFault, is_opening, is_closing, is_too_deep, first_from, depth_fault_in}
 use native.Mathlib.Omega.{arith}
 
+-- one step of the search for it
+first_here : (test : ℕ → Bool) (from count k : ℕ) (later : Option ℕ) (below : Bool) → nat_lt from k ≡ below → from ≤ k → test k ≡ true
+    → ((n : ℕ) → from ≤ n → n < k → test n ≡ false) → (from < k → later ≡ Some k) → (if test from then Some from else later) ≡ Some k
+first_here test from count k later true below low passes fails goes_on =
+    ap (λ b. if b then Some from else later) (fails from (omega arith) (grind (arith, nat_tests, below))) ∙ goes_on (grind (arith, nat_tests, below))
+first_here test from count k later false above low passes fails goes_on =
+    let here : from ≡ k = grind (arith, nat_tests, above, low) in
+    ap (λ b. if b then Some from else later) (subst (λ m. test m ≡ true) (sym here) passes) ∙ ap Some here
+
 -- the first number that passes is found
 first_is : (test : ℕ → Bool) (from count k : ℕ) → from ≤ k → k < from + count → test k ≡ true → ((n : ℕ) → from ≤ n → n < k → test n ≡ false)
     → first_from test from count ≡ Some k
-first_is test from zero k low high yes no = absurd (omega (arith, low, high))
-first_is test from (suc count) k low high yes no = decide (nat_lt from k) refl
-  where
-    decide : (b : Bool) → nat_lt from k ≡ b → first_from test from (suc count) ≡ Some k
-    decide true below =
-        ap (λ b. if b then Some from else first_from test (suc from) count) (no from (omega arith) (grind (arith, nat_tests, below)))
-        ∙ first_is test (suc from) count k (grind (arith, nat_tests, below)) (omega (arith, high)) yes (λ n above. no n (omega (arith, above)))
-    decide false above =
-        let here : from ≡ k = grind (arith, nat_tests, above, low) in
-        ap (λ b. if b then Some from else first_from test (suc from) count) (subst (λ m. test m ≡ true) (sym here) yes) ∙ ap Some here
+first_is test from zero k low high passes fails = absurd (omega (arith, low, high))
+first_is test from (suc count) k low high passes fails =
+    first_here test from count k (first_from test (suc from) count) (nat_lt from k) refl low passes fails λ below.
+    first_is test (suc from) count k (omega (arith, below)) (omega (arith, high)) passes λ n above. fails n (omega (arith, above))
 
 -- where no number passes none is found
 first_is_none : (test : ℕ → Bool) (from count : ℕ) → ((n : ℕ) → test n ≡ false) → first_from test from count ≡ None
-first_is_none test from zero no = refl
-first_is_none test from (suc count) no =
-    ap (λ b. if b then Some from else first_from test (suc from) count) (no from) ∙ first_is_none test (suc from) count no
+first_is_none test from zero fails = refl
+first_is_none test from (suc count) fails =
+    ap (λ b. if b then Some from else first_from test (suc from) count) (fails from) ∙ first_is_none test (suc from) count fails
 
 too_deep : (ts : List Token) → IsTooDeep ts → is_too_deep ts ≡ true
 too_deep ts deep = at (length (filter is_closing ts)) (length (filter is_opening ts)) deep
@@ -33,15 +36,15 @@ too_deep ts deep = at (length (filter is_closing ts)) (length (filter is_opening
     at closed opened h = grind (arith, nat_tests, h)
 
 not_too_deep : (ts : List Token) → (IsTooDeep ts → ⊥) → is_too_deep ts ≡ false
-not_too_deep ts not = at (length (filter is_closing ts)) (length (filter is_opening ts)) (nat_lt (length (filter is_closing ts) + 64) (length (filter is_opening ts))) refl not
+not_too_deep ts shallow = at (length (filter is_closing ts)) (length (filter is_opening ts)) (nat_lt (length (filter is_closing ts) + 64) (length (filter is_opening ts))) refl shallow
   where
     at : (closed opened : ℕ) (b : Bool) → nat_lt (closed + 64) opened ≡ b → (closed + 64 < opened → ⊥) → nat_lt (closed + 64) opened ≡ false
-    at closed opened true is no = absurd (no (grind (arith, nat_tests, is)))
-    at closed opened false is no = is
+    at closed opened true is never = absurd (never (grind (arith, nat_tests, is)))
+    at closed opened false is never = is
 
 whole_from : (ts : List Token) (k : ℕ) → length ts ≤ k → take (k + 1) ts ≡ take k ts
 whole_from [] zero le = refl
-whole_from [] (suc k) le = refl
+whole_from [] (suc k) le = ap (λ n. take n []) {x = suc k + 1} {y = suc (k + 1)} (omega arith)
 whole_from (t ∷ ts) zero le = absurd (omega (arith, le))
 whole_from (t ∷ ts) (suc k) le =
     ap (λ n. take n (t ∷ ts)) {x = suc k + 1} {y = suc (k + 1)} (omega arith) ∙ ap (λ us. t ∷ us) (whole_from ts k (omega (arith, le)))

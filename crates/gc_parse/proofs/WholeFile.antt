@@ -1,5 +1,5 @@
 -- Whole query files: what the reader of files gives for them.
-use Rattle.std.proofs.Common.{◌≡◌, refl, sym, ap, subst, ◌∙◌, ℕ, zero, suc, ◌+◌, ◌-◌, ◌<◌, ◌≤◌, List, [], ◌∷◌, ◌++◌, length, take, drop, map, Result, Ok, Err, Option, Some, None}
+use Rattle.std.proofs.Common.{◌≡◌, refl, sym, ap, subst, ◌∙◌, ℕ, zero, suc, ◌+◌, ◌-◌, ◌<◌, ◌≤◌, List, [], ◌∷◌, ◌++◌, length, take, drop, map, Result, Ok, Err, Option, Some, None, slice_get}
 use Rattle.gc_ast.specs.Trees.{Tree, AStatement}
 use Rattle.gc_ast.specs.declared.query.Statement.{Statement}
 use Rattle.gc_ast.specs.QueryViews.{statement_tree}
@@ -10,9 +10,14 @@ use Rattle.gc_grammar.specs.Readers.{Got, Stuck}
 use Rattle.gc_grammar.specs.Queries.{SpellsFile, start}
 use Rattle.gc_parse.specs.declared.refusal.Refusal.{Refusal}
 use Rattle.gc_parse.specs.declared.refusal.Refusal.TheVariants as refusal
-use Rattle.gc_parse.specs.Parses.{IsWhole, IsDueWhole, file_reading, read_whole}
+use Rattle.gc_parse.specs.declared.refusal.ParseRefusal.TheVariants as whole
+use Rattle.gc_parse.specs.declared.refusal.ParseRefusal.{ParseRefusal}
+use Rattle.gc_parse.specs.Depths.{depth_fault_in}
+use Rattle.gc_parse.specs.Parses.{IsWhole, IsDueWhole, IsDueParse, file_reading, parsed, read_whole, unless_deep}
 use Rattle.gc_parse.specs.QueryReaders.{nested, read_file}
-use Rattle.gc_parse.specs.Results.{Gives, bare}
+use Rattle.gc_parse.specs.Results.{Gives, bare, as_parse_refusal}
+use Rattle.gc_base.specs.declared.place.Place.{Place}
+use Rattle.gc_parse.proofs.Prefixes.{take_snoc}
 use Rattle.gc_parse.proofs.FileRight.{file_sound, file_refused, file_alone}
 use native.Mathlib.Omega.{arith}
 
@@ -40,3 +45,43 @@ file_exits view ts room (refusal.Syntax k) result room_is exit stuck =
     )
 file_exits view ts room refusal.Memory result room_is exit stuck =
     subst (λ r. IsWhole SpellsFile view ts r × IsDueWhole view (read_whole (file_reading (length ts + 1) ts)) r) (sym (exit.1 ∙ ap Err exit.2)) (tt, tt)
+
+-- the same of equal lists and equal trees
+pub same_whole : (ts us : List Token) (trees others : List (Tree AStatement)) → us ≡ ts → trees ≡ others
+    → SpellsFile us trees × ((a : List (Tree AStatement)) → SpellsFile us a → a ≡ trees)
+    → SpellsFile ts others × ((a : List (Tree AStatement)) → SpellsFile ts a → a ≡ others)
+same_whole ts us trees others same alike whole =
+    subst (λ vs. SpellsFile vs others × ((a : List (Tree AStatement)) → SpellsFile vs a → a ≡ others)) same
+    (subst (λ t. SpellsFile us t × ((a : List (Tree AStatement)) → SpellsFile us a → a ≡ t)) alike whole)
+
+-- where a bracket is too deep, that is due
+pub deep_is_due : (ts : List Token) (k : ℕ) → depth_fault_in ts ≡ Some k → parsed ts ≡ Err (whole.TooDeep k)
+unfolding parsed
+deep_is_due ts k deep = ap (λ d. unless_deep d (read_whole (file_reading (length ts + 1) ts))) deep
+
+-- where none is, what the reader gives is due
+pub reading_is_due : (ts : List Token) → depth_fault_in ts ≡ None → parsed ts ≡ read_whole (file_reading (length ts + 1) ts)
+unfolding parsed
+reading_is_due ts deep = ap (λ d. unless_deep d (read_whole (file_reading (length ts + 1) ts))) deep
+
+-- a refusal of the whole list is the one that is due
+pub refusal_is_due : {T : Type 0} (view : T → List (Tree AStatement)) (ts : List Token) (refused : Refusal) (result : Result T ParseRefusal)
+    → (x : ParseRefusal) × (result ≡ Err x) × (x ≡ as_parse_refusal refused) → depth_fault_in ts ≡ None
+    → IsDueWhole view (read_whole (file_reading (length ts + 1) ts)) (Err refused) → IsDueParse view (parsed ts) result
+refusal_is_due view ts (refusal.Syntax k) result exit deep due =
+    subst (IsDueParse view (parsed ts)) (sym (exit.1 ∙ ap Err exit.2)) (reading_is_due ts deep ∙ due)
+refusal_is_due view ts refusal.Memory result exit deep due = subst (IsDueParse view (parsed ts)) (sym (exit.1 ∙ ap Err exit.2)) tt
+
+take_whole : {A : Type 0} (xs : List A) (n : ℕ) → length xs ≡ n → take n xs ≡ xs
+take_whole [] zero is = refl
+take_whole [] (suc n) is = absurd (omega (arith, is))
+take_whole (x ∷ xs) zero is = absurd (omega (arith, is))
+take_whole (x ∷ xs) (suc n) is = ap (λ rest. x ∷ rest) (take_whole xs n (omega (arith, is)))
+
+-- the places of the tokens, and the one of the end
+pub places_are_whole : (all places : List Place) (end last : Place) (n m : ℕ) → length all ≡ n + 1 → m ≡ n → slice_get all m ≡ Some last → places ≡ take n all → end ≡ last
+    → places ++ end ∷ [] ≡ all
+places_are_whole all places end last n m long same at front is =
+    (λ j. front j ++ is j ∷ [])
+    ∙ sym (take_snoc all n last (subst (λ i. slice_get all i ≡ Some last) same at))
+    ∙ take_whole all (n + 1) long
