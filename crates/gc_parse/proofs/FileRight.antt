@@ -11,7 +11,7 @@ use Rattle.gc_grammar.proofs.RightBoth.{leaves_room}
 use Rattle.gc_parse.specs.QueryReaders.{nested, read_file}
 use Rattle.gc_parse.proofs.Outlines.{statement_outline}
 use Rattle.gc_parse.proofs.QueryRight.{right_statement}
-use Rattle.gc_parse.proofs.StatementLists.{later_begins, later_right, file_of_listed, listed_of_file}
+use Rattle.gc_parse.proofs.Statements.{later_begins, later_right, file_of_listed, listed_of_file}
 use Rattle.gc_parse.proofs.Whole.{split_at}
 use Rattle.gc_parse.proofs.WholeLists.{WholeSound, WholeRight, whole_made, whole_both, whole_same}
 use native.Mathlib.Omega.{arith}

@@ -133,3 +133,11 @@ list_given tokens (Ok given) reading gives =
     sym (in_front_nothing reading) ∙ gives ∙ ap (λ xs. Got xs (bare given.1) (drop given.1 tokens)) (map_is_itself given.0)
 list_given tokens (Err (refusal.Syntax k)) reading gives = sym (in_front_nothing reading) ∙ gives
 list_given tokens (Err refusal.Memory) reading gives = tt
+
+-- a loop that begins without values
+pub loop_begins : {T A : Type 0} (view : T → A) (kinds : List ℕ) (p : Reader A) (room : ℕ) (items : List T) (start : Point) (ts : List Token)
+    → items ≡ [] → in_front (map view items) (read_many kinds p (room - 0) start ts) ≡ read_many kinds p room start ts
+loop_begins view kinds p room items start ts none =
+    ap (λ xs. in_front (map view xs) (read_many kinds p (room - 0) start ts)) none
+    ∙ ap (λ n. in_front [] (read_many kinds p n start ts)) {x = room - 0} {y = room} (omega arith)
+    ∙ in_front_nothing (read_many kinds p room start ts)

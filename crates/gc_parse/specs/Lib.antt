@@ -1,6 +1,8 @@
 pub mod ConstructReaders
+pub mod ConstructViews
 pub mod Depths
 pub mod ExpressionReaders
+pub mod LaterReaders
 pub mod LinkViews
 pub mod Parses
 pub mod PatternReaders
@@ -10,3 +12,4 @@ pub mod RegexReaders
 pub mod RegexViews
 pub mod Results
 pub mod Sources
+pub mod TermParts

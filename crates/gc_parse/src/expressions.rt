@@ -21,6 +21,7 @@ use gc_expr::{Expr, ExprList, ProductPart, ProductPartList, SumPart, SumPartList
 use gc_lex::Mark;
 
 #[tactic(auto, unfolding(crate::specs::ExpressionReaders::read_formula))]
+#[cycle(parser)]
 // An expression, with the queries of its own EXISTS beside it.
 pub(crate) fn formula(source: &Source, room: u64, at: u32) -> Result<(Formula, u32), Refusal>
     requires { 0 < room }

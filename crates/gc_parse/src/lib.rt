@@ -1,23 +1,30 @@
-//! The parser: the one tree of a token list, or the token up to which no list spells one.
-//! Others rely on `parse_regex` alone so far; the readers of all productions are proved right, and the
-//! code of query files comes. This crate knows the grammar, and no text and no graph.
+//! The parser: the one file, or the one regular path expression, that a token list spells, or the
+//! exact refusal. Others rely on `parse` and `parse_regex` alone. This crate knows the grammar, and no
+//! text and no graph.
 #![tactic(auto)]
 
+mod assigns;
+mod blocks;
 mod chains;
 mod changes;
+mod conditions;
+mod constructs;
 mod depth;
 mod edges;
 mod elements;
 mod expressions;
+mod files;
 mod forks;
 mod labels;
 mod laws;
 mod links;
 mod literals;
+mod new_elements;
 mod numbering;
 mod operators;
 mod parsing;
 mod part;
+mod path_heads;
 mod paths;
 mod primaries;
 mod queries;
@@ -25,7 +32,6 @@ mod refusal;
 mod regex_part;
 mod regexes;
 mod source;
-mod statements;
 #[cfg(test)]
 mod tests;
 mod unplaced;

@@ -5,10 +5,10 @@ ghost use Rattle.gc_grammar.specs.Queries.{SpellsFile, SpellsRegex};
 ghost use Rattle.gc_parse.specs.Parses.{IsDueParse, IsDueWhole, IsParse, IsWhole, file_reading, parsed, read_whole};
 
 use crate::depth::depth_fault;
+use crate::files::file_statements;
 use crate::refusal::{ParseRefusal, Refusal};
 use crate::regexes::regex;
 use crate::source::Source;
-use crate::statements::file_statements;
 use gc_ast::{File, PlaceList, StatementList};
 use gc_base::Memory;
 use gc_lex::Tokens;

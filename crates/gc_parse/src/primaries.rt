@@ -156,6 +156,7 @@ fn inner_expression(
 }
 
 #[tactic(auto, unfolding(crate::specs::ExpressionReaders::read_exists, crate::specs::ExpressionReaders::read_in_parentheses))]
+#[cycle(parser)]
 // `EXISTS` `(` query `)`
 fn exists_query(
     source: &Source,

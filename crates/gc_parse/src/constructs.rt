@@ -1,0 +1,203 @@
+ghost use Rattle.std.specs.Prelude.{◌≡◌, ◌-◌, ◌<◌, ◌∷◌, [], drop, map};
+ghost use Rattle.gc_lex.specs.declared.token.Mark.TheVariants as mark;
+ghost use Rattle.gc_ast.specs.QueryViews.{item_tree, part_tree};
+ghost use Rattle.gc_grammar.specs.Kinds.{begins, mark_kind};
+ghost use Rattle.gc_grammar.specs.Readers.{in_front, read_both, read_many, read_behind, read_separated, read_mark};
+ghost use Rattle.gc_parse.specs.ConstructReaders.{read_cchain, read_clink, read_cnode, read_chain_item, read_item, read_new_path, read_new_stored};
+ghost use Rattle.gc_parse.specs.LinkViews.{in_front_in_turn};
+ghost use Rattle.gc_parse.specs.PatternReaders.{link_kinds};
+ghost use Rattle.gc_parse.specs.QueryReaders.{nested};
+ghost use Rattle.gc_parse.specs.Results.{Gives, bare};
+
+use crate::assigns::{assigns_if, listed_assigns, subs};
+use crate::changes::{new_labels, projected};
+use crate::conditions::condition_if;
+use crate::forks::{is_path_at, is_projected_at};
+use crate::new_elements::{cnode, new_edge};
+use crate::part::one;
+use crate::refusal::Refusal;
+use crate::source::Source;
+use gc_ast::{ConstructPart, ConstructPartList, Item, ItemList};
+use gc_lex::Mark;
+
+#[tactic(auto, unfolding(crate::specs::ConstructReaders::read_new_stored, crate::specs::PatternReaders::read_in_slashes))]
+#[cycle(parser)]
+// `-` `/` `@` name { `:` word } [ assigns ] `/` `-` `>`
+fn new_stored(source: &Source, room: u64, at: u32) -> Result<(ConstructPart, u32), Refusal>
+    requires { 0 < room }
+    ensures { Gives (part_tree source.now.names) source.now.tokens result (read_new_stored room (nested (room - 1)) (bare at) (drop at source.now.tokens)) }
+{
+    let token = at;
+    let at = source.mark(at, Mark::Minus)?;
+    let at = source.mark(at, Mark::Slash)?;
+    let at = source.mark(at, Mark::AtSign)?;
+    let (name, at) = source.name(at)?;
+    let (labels, at) = new_labels(source, room, at)?;
+    let (assigns, at) = assigns_if(source, room, at)?;
+    let at = source.mark(at, Mark::Slash)?;
+    let at = source.mark(at, Mark::Minus)?;
+    let at = source.mark(at, Mark::Greater)?;
+    let assigns = listed_assigns(source.alloc(), assigns);
+    Ok((ConstructPart::stored(token, name, labels, assigns), at))
+}
+
+#[tactic(auto, unfolding(crate::specs::ConstructReaders::read_new_path))]
+#[cycle(parser)]
+// `-` `/` name `/` `-` `>` | `-` `/` `@` name { `:` word } [ assigns ] `/` `-` `>`
+fn new_path(source: &Source, room: u64, at: u32) -> Result<(ConstructPart, u32), Refusal>
+    requires { 0 < room }
+    ensures { Gives (part_tree source.now.names) source.now.tokens result (read_new_path room (nested (room - 1)) (bare at) (drop at source.now.tokens)) }
+{
+    if is_projected_at(source, at) {
+        projected(source, at)
+    } else {
+        new_stored(source, room, at)
+    }
+}
+
+#[tactic(auto, unfolding(crate::specs::ConstructReaders::read_clink))]
+#[cycle(parser)]
+// clink = `-` `[` celement `]` `-` [ `>` ] | `<` `-` `[` celement `]` `-`
+//     | `-` `/` name `/` `-` `>` | `-` `/` `@` name { `:` word } [ assigns ] `/` `-` `>`
+fn clink(source: &Source, room: u64, at: u32) -> Result<(ConstructPart, u32), Refusal>
+    requires { 0 < room }
+    ensures { Gives (part_tree source.now.names) source.now.tokens result (read_clink room (nested (room - 1)) (bare at) (drop at source.now.tokens)) }
+{
+    if is_path_at(source, at) {
+        new_path(source, room, at)
+    } else {
+        new_edge(source, room, at)
+    }
+}
+
+#[tactic(auto, unfolding(crate::specs::ConstructReaders::read_cchain, crate::specs::PatternReaders::read_linked))]
+#[cycle(parser)]
+// cchain = cnode { clink cnode }
+fn cchain(source: &Source, room: u64, at: u32) -> Result<(ConstructPartList, u32), Refusal>
+    requires { 0 < room }
+    ensures { Gives (λ parts. map (part_tree source.now.names) parts.items) source.now.tokens result (read_cchain room (nested (room - 1)) (bare at) (drop at source.now.tokens)) }
+{
+    let (first, at) = cnode(source, room, at)?;
+    let (parts, at) = linked_parts(source, room, at, first)?;
+    Ok((parts, at))
+}
+
+#[cycle(parser)]
+// { clink cnode } behind a first node
+fn linked_parts(
+    source: &Source,
+    room: u64,
+    from: u32,
+    first: ConstructPart,
+) -> Result<(ConstructPartList, u32), Refusal>
+    requires { 0 < room }
+    ensures { Gives (λ parts. map (part_tree source.now.names) parts.items) source.now.tokens result (in_front_in_turn (part_tree source.now.names first ∷ []) (read_many link_kinds (read_both (read_clink room (nested (room - 1))) (read_cnode room (nested (room - 1)))) room (bare from) (drop from source.now.tokens))) }
+{
+    let mut parts = one(source.alloc(), first)?;
+    let mut at = from;
+    for _ in 0..room {
+        if !is_link_at(source, at) {
+            return Ok((parts, at));
+        }
+        let ((link, node), next) = link_and_node(source, room, at)?;
+        parts.push(link)?;
+        parts.push(node)?;
+        at = next;
+    }
+    Ok((parts, at))
+}
+
+#[cycle(parser)]
+// clink cnode
+fn link_and_node(
+    source: &Source,
+    room: u64,
+    at: u32,
+) -> Result<((ConstructPart, ConstructPart), u32), Refusal>
+    requires { 0 < room }
+    ensures { Gives (λ linked. (part_tree source.now.names linked.0, part_tree source.now.names linked.1)) source.now.tokens result (read_both (read_clink room (nested (room - 1))) (read_cnode room (nested (room - 1))) (bare at) (drop at source.now.tokens)) }
+{
+    let (link, at) = clink(source, room, at)?;
+    let (node, at) = cnode(source, room, at)?;
+    Ok(((link, node), at))
+}
+
+// Whether a link begins at a place.
+fn is_link_at(source: &Source, at: u32) -> bool
+    ensures { result ≡ begins link_kinds (drop at source.now.tokens) }
+{
+    source.is_at(at, Mark::Minus) || source.is_at(at, Mark::Less)
+}
+
+#[tactic(auto, unfolding(crate::specs::ConstructReaders::read_chain_item, crate::specs::QueryReaders::read_condition_if))]
+#[cycle(parser)]
+// cchain { sub } [ `WHEN` expr ]
+fn chain_item(source: &Source, room: u64, at: u32) -> Result<(Item, u32), Refusal>
+    requires { 0 < room }
+    ensures { Gives (item_tree source.now.names) source.now.tokens result (read_chain_item room (nested (room - 1)) (bare at) (drop at source.now.tokens)) }
+{
+    let (parts, at) = cchain(source, room, at)?;
+    let (changes, at) = subs(source, room, at)?;
+    let (condition, at) = condition_if(source, room, at, "WHEN")?;
+    Ok((Item::chain(parts, changes, condition), at))
+}
+
+#[tactic(auto, unfolding(crate::specs::ConstructReaders::read_item))]
+#[cycle(parser)]
+// item = name | cchain { sub } [ `WHEN` expr ]
+fn item(source: &Source, room: u64, at: u32) -> Result<(Item, u32), Refusal>
+    requires { 0 < room }
+    ensures { Gives (item_tree source.now.names) source.now.tokens result (read_item room (nested (room - 1)) (bare at) (drop at source.now.tokens)) }
+{
+    if !source.is_name_at(at) {
+        return chain_item(source, room, at);
+    }
+    let (name, at) = source.name(at)?;
+    Ok((Item::graph(name), at))
+}
+
+#[cycle(parser)]
+// item { `,` item }
+pub(crate) fn items(source: &Source, room: u64, at: u32) -> Result<(ItemList, u32), Refusal>
+    requires { 0 < room }
+    ensures { Gives (λ items. map (item_tree source.now.names) items.items) source.now.tokens result (read_separated (mark_kind mark.Comma ∷ []) (read_item room (nested (room - 1))) (read_mark mark.Comma) room (bare at) (drop at source.now.tokens)) }
+{
+    let (first, at) = item(source, room, at)?;
+    let (items, at) = later_items(source, room, at, first)?;
+    Ok((items, at))
+}
+
+#[cycle(parser)]
+// { `,` item } behind a first item
+fn later_items(
+    source: &Source,
+    room: u64,
+    from: u32,
+    first: Item,
+) -> Result<(ItemList, u32), Refusal>
+    requires { 0 < room }
+    ensures { Gives (λ items. map (item_tree source.now.names) items.items) source.now.tokens result (in_front (item_tree source.now.names first ∷ []) (read_many (mark_kind mark.Comma ∷ []) (read_behind (read_mark mark.Comma) (read_item room (nested (room - 1)))) room (bare from) (drop from source.now.tokens))) }
+{
+    let mut items = one(source.alloc(), first)?;
+    let mut at = from;
+    for _ in 0..room {
+        if !source.is_at(at, Mark::Comma) {
+            return Ok((items, at));
+        }
+        let (item, next) = later_item(source, room, at)?;
+        items.push(item)?;
+        at = next;
+    }
+    Ok((items, at))
+}
+
+#[cycle(parser)]
+// `,` item
+fn later_item(source: &Source, room: u64, at: u32) -> Result<(Item, u32), Refusal>
+    requires { 0 < room }
+    ensures { Gives (item_tree source.now.names) source.now.tokens result (read_behind (read_mark mark.Comma) (read_item room (nested (room - 1))) (bare at) (drop at source.now.tokens)) }
+{
+    let at = source.mark(at, Mark::Comma)?;
+    let (item, at) = item(source, room, at)?;
+    Ok((item, at))
+}
