@@ -1,7 +1,7 @@
 ghost use Rattle.std.specs.Prelude.{◌≡◌, ◌-◌, ◌<◌, ◌∷◌, [], drop, map};
 ghost use Rattle.gc_lex.specs.declared.token.Mark.TheVariants as mark;
 ghost use Rattle.gc_ast.specs.QueryViews.{item_tree, part_tree};
-ghost use Rattle.gc_grammar.specs.Kinds.{begins, mark_kind};
+ghost use Rattle.gc_grammar.specs.Kinds.{mark_kind};
 ghost use Rattle.gc_grammar.specs.Readers.{in_front, read_both, read_many, read_behind, read_separated, read_mark};
 ghost use Rattle.gc_parse.specs.ConstructReaders.{read_cchain, read_clink, read_cnode, read_chain_item, read_item, read_new_path, read_new_stored};
 ghost use Rattle.gc_parse.specs.LinkViews.{in_front_in_turn};
@@ -13,6 +13,7 @@ use crate::assigns::{assigns_if, listed_assigns, subs};
 use crate::changes::{new_labels, projected};
 use crate::conditions::condition_if;
 use crate::forks::{is_path_at, is_projected_at};
+use crate::links::is_link_at;
 use crate::new_elements::{cnode, new_edge};
 use crate::part::one;
 use crate::refusal::Refusal;
@@ -120,13 +121,6 @@ fn link_and_node(
     let (link, at) = clink(source, room, at)?;
     let (node, at) = cnode(source, room, at)?;
     Ok(((link, node), at))
-}
-
-// Whether a link begins at a place.
-fn is_link_at(source: &Source, at: u32) -> bool
-    ensures { result ≡ begins link_kinds (drop at source.now.tokens) }
-{
-    source.is_at(at, Mark::Minus) || source.is_at(at, Mark::Less)
 }
 
 #[tactic(auto, unfolding(crate::specs::ConstructReaders::read_chain_item, crate::specs::QueryReaders::read_condition_if))]

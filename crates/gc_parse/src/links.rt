@@ -18,7 +18,7 @@ use gc_base::NameAt;
 use gc_lex::Mark;
 
 // Whether a link begins at a place.
-fn is_link_at(source: &Source, at: u32) -> bool
+pub(crate) fn is_link_at(source: &Source, at: u32) -> bool
     ensures { result ≡ begins link_kinds (drop at source.now.tokens) }
 {
     source.is_at(at, Mark::Minus) || source.is_at(at, Mark::Less)
