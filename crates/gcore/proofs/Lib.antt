@@ -1,4 +1,7 @@
-pub mod ThinLaws
 pub mod CommandLaws
 pub mod GraphsRead
 pub mod RunLaws
+pub mod QueryFileLaws
+pub mod TextPlaces
+pub mod ThinTreeLaws
+pub mod TreeParts

@@ -10,11 +10,11 @@ use Rattle.gc_spec.specs.PropertyGraph.{PropertyGraph}
 use Rattle.gcore.specs.Outcomes.{outcome, text_of, then_due, graphs_due, label_due, first_printed, printed}
 use Rattle.gcore.specs.Endings.{Answers, Call, Change, StopsFor, GainsPrefix, WritesText}
 use Rattle.gcore.specs.GraphSteps.{StopsReadingGraphs}
-use Rattle.gcore.specs.Steps.{StopsReading}
+use Rattle.gcore.specs.Steps.{StopsReadingQuery}
 use Rattle.gcore.specs.declared.command.Command.TheVariants.{Run}
 use Rattle.gcore.specs.declared.pair.Pair.{Pair}
 use Rattle.gcore.specs.declared.stop.Stop.{Stop}
-use Rattle.gcore.specs.declared.stop.Stop.TheVariants.{Usage, Unread, TooLarge, Refused, NotBuilt, Unwritten, OutOfMemory}
+use Rattle.gcore.specs.declared.stop.Stop.TheVariants.{Usage, Unread, TooLarge, Refused, Text, NotBuilt, Unwritten, OutOfMemory}
 
 first_is : (gs : List PropertyGraph) (g : PropertyGraph) (label : List ℕ) → slice_get gs 0 ≡ Some g → first_printed gs label ≡ Ok (printed g label)
 first_is [] g label h = absurd (cc)
@@ -51,7 +51,7 @@ module _ (query : List ℕ) (pairs : List Pair) where
 
   -- where the query file stops the call, the call stops for that cause
   pub label_stops : (told : Option Files) (gs : List PropertyGraph) (before middle after faults : ℕ) (taken : Option (List ℕ)) (stop : Stop) → IfSome told (λ files. graphs_due files [] pairs ≡ Ok gs) → before ≤ middle
-      → StopsReading (record { files = told; faults_before = middle; faults_after = after }) query (λ files. label_due files query) stop
+      → StopsReadingQuery (record { files = told; faults_before = middle; faults_after = after }) query (λ files. label_due files query) stop
       → StopsFor (record { command = Some (Run query pairs); files = told; faults_before = before; faults_after = after; out = still faults taken }) stop
   label_stops told gs before middle after faults taken Usage graphs le h = absurd h
   label_stops None gs before middle after faults taken (Unread file) graphs le h = (inr (h.0, tt), omega arith, refl)
@@ -60,6 +60,8 @@ module _ (query : List ℕ) (pairs : List Pair) where
   label_stops None gs before middle after faults taken (TooLarge file) graphs le h = (inr (h.0, tt), tt, refl)
   label_stops (Some files) gs before middle after faults taken (TooLarge file) graphs le h = (inr (h.0, subst IsOk (sym graphs) refl), due_stop files gs (TooLarge file) graphs h.1, refl)
   label_stops told gs before middle after faults taken (Refused refusal file) graphs le h = absurd h
+  label_stops None gs before middle after faults taken (Text refusal) graphs le h = ((refl, tt), tt, refl)
+  label_stops (Some files) gs before middle after faults taken (Text refusal) graphs le h = ((refl, subst IsOk (sym graphs) refl), due_stop files gs (Text refusal) graphs h, refl)
   label_stops None gs before middle after faults taken NotBuilt graphs le h = (refl, tt, refl)
   label_stops (Some files) gs before middle after faults taken NotBuilt graphs le h = (refl, due_stop files gs NotBuilt graphs h, refl)
   label_stops told gs before middle after faults taken Unwritten graphs le h = absurd h
@@ -83,6 +85,7 @@ module _ (query : List ℕ) (pairs : List Pair) where
   graph_stops (Some files) before after faults taken (TooLarge file) h = (inl h.0, first_stop files (TooLarge file) h.1, refl)
   graph_stops None before after faults taken (Refused refusal file) h = (h.0, tt, refl)
   graph_stops (Some files) before after faults taken (Refused refusal file) h = (h.0, first_stop files (Refused refusal file) h.1, refl)
+  graph_stops told before after faults taken (Text refusal) h = absurd h
   graph_stops None before after faults taken NotBuilt h = (refl, tt, refl)
   graph_stops (Some files) before after faults taken NotBuilt h = (refl, first_stop files NotBuilt h, refl)
   graph_stops told before after faults taken Unwritten h = absurd h
@@ -103,6 +106,7 @@ module _ (query : List ℕ) (pairs : List Pair) where
   written told gs g label before after out (Err (Unread file)) a first b w = absurd w
   written told gs g label before after out (Err (TooLarge file)) a first b w = absurd w
   written told gs g label before after out (Err (Refused refusal file)) a first b w = absurd w
+  written told gs g label before after out (Err (Text refusal)) a first b w = absurd w
   written told gs g label before after out (Err NotBuilt) a first b w = absurd w
 
 -- what a call that stops for a cause answers

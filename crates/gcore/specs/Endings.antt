@@ -7,13 +7,14 @@ use Rattle.gc_base.specs.Files.{Files}
 use Rattle.gcore.specs.GraphLines.{IsHeld}
 use Rattle.gcore.specs.Lines.{line_of, status_of}
 use Rattle.gcore.specs.Outcomes.{outcome, text_of, graphs_due}
+use Rattle.gcore.specs.TextLines.{IsHeldText}
 use Rattle.gcore.specs.declared.command.Command.{Command}
 use Rattle.gcore.specs.declared.command.Command.TheVariants.{Run, Cert, Explain, Check, Make}
 use Rattle.gcore.specs.declared.pair.Pair.{Pair}
 use Rattle.gcore.specs.declared.status.Status.{Status}
 use Rattle.gcore.specs.declared.status.Status.TheVariants.{Done}
 use Rattle.gcore.specs.declared.stop.Stop.{Stop}
-use Rattle.gcore.specs.declared.stop.Stop.TheVariants.{Usage, Unread, TooLarge, Refused, NotBuilt, Unwritten, OutOfMemory}
+use Rattle.gcore.specs.declared.stop.Stop.TheVariants.{Usage, Unread, TooLarge, Refused, Text, NotBuilt, Unwritten, OutOfMemory}
 
 -- a sink before and after a call: its count of faults, and what it took, where it tells that
 pub record Change : Type 0 where
@@ -93,6 +94,14 @@ IsTurnOf told (Explain query pairs) file = ⊥
 IsTurnOf told (Check document) file = ⊥
 IsTurnOf told (Make kind size start) file = ⊥
 
+-- the turn of the query file of a command that reads one comes
+abbrev pub IsTurnOfItsQuery : Option Files → Command → Type 0
+IsTurnOfItsQuery told (Run query pairs) = IsTurnOfQuery told query pairs query
+IsTurnOfItsQuery told (Cert query pairs) = ⊥
+IsTurnOfItsQuery told (Explain query pairs) = ⊥
+IsTurnOfItsQuery told (Check document) = ⊥
+IsTurnOfItsQuery told (Make kind size start) = ⊥
+
 -- the file is one of the command's, and its turn comes
 abbrev pub IsReached : Call → List ℕ → Type 0
 IsReached call file = IsSomeAnd call.command (λ command. IsTurnOf call.files command file)
@@ -100,6 +109,10 @@ IsReached call file = IsSomeAnd call.command (λ command. IsTurnOf call.files co
 -- the file is one of the command's graph files, and its turn comes
 abbrev pub IsReachedGraph : Call → List ℕ → Type 0
 IsReachedGraph call file = IsSomeAnd call.command (λ command. IsTurnOfGraph call.files (graphs_of command) file)
+
+-- the command reads a query file, and its turn comes
+abbrev pub IsReachedQuery : Call → Type 0
+IsReachedQuery call = IsSomeAnd call.command (λ command. IsTurnOfItsQuery call.files command)
 
 -- a file can't be read: where the files are told that is due, or the folder's count rose; else the count rose
 abbrev pub IsUnread : Call → List ℕ → Type 0
@@ -111,6 +124,7 @@ StopsFor call Usage = (call.command ≡ None) × GainsNothing call.out
 StopsFor call (Unread file) = IsReached call file × IsUnread call file × GainsNothing call.out
 StopsFor call (TooLarge file) = IsReached call file × IsDue call (TooLarge file) × GainsNothing call.out
 StopsFor call (Refused refusal file) = IsReachedGraph call file × IsDue call (Refused refusal file) × GainsNothing call.out
+StopsFor call (Text refusal) = IsReachedQuery call × IsDue call (Text refusal) × GainsNothing call.out
 StopsFor call NotBuilt = IsSome call.command × IsDue call NotBuilt × GainsNothing call.out
 StopsFor call Unwritten = IsSome call.command × Failed call.out × GainsDuePrefix call
 StopsFor call OutOfMemory = GainsDuePrefix call
@@ -144,11 +158,20 @@ named_files (Some (Explain query pairs)) = []
 named_files (Some (Check document)) = []
 named_files (Some (Make kind size start)) = []
 
+-- a command reads a query file
+abbrev pub HasQuery : Command → Type 0
+HasQuery (Run query pairs) = ⊤
+HasQuery (Cert query pairs) = ⊥
+HasQuery (Explain query pairs) = ⊥
+HasQuery (Check document) = ⊥
+HasQuery (Make kind size start) = ⊥
+
 -- a stop about a file is about one that the command reads
 abbrev pub MayStop : Option Command → Stop → Type 0
 MayStop command (Unread file) = Contains (named_files command) file
 MayStop command (TooLarge file) = Contains (named_files command) file
 MayStop command (Refused refusal file) = Contains (graph_files command) file × IsHeld refusal
+MayStop command (Text refusal) = IsSomeAnd command HasQuery × IsHeldText refusal
 MayStop command stop = ⊤
 
 -- a told room of `out` holds the text that is due, for which the files have to be told

@@ -5,10 +5,11 @@ use Rattle.gc_catalog.specs.NamedGraphs.{NamedGraphs}
 use Rattle.gcore.specs.Endings.{IsTurnOfGraph}
 use Rattle.gcore.specs.GraphLines.{IsHeld}
 use Rattle.gcore.specs.Outcomes.{graphs_due}
+use Rattle.gcore.specs.TextLines.{IsHeldText}
 use Rattle.gcore.specs.Steps.{Reading}
 use Rattle.gcore.specs.declared.pair.Pair.{Pair}
 use Rattle.gcore.specs.declared.stop.Stop.{Stop}
-use Rattle.gcore.specs.declared.stop.Stop.TheVariants.{Usage, Unread, TooLarge, Refused, NotBuilt, Unwritten, OutOfMemory}
+use Rattle.gcore.specs.declared.stop.Stop.TheVariants.{Usage, Unread, TooLarge, Refused, Text, NotBuilt, Unwritten, OutOfMemory}
 
 -- where the files are told, this stop is due
 abbrev pub IsDueFor : Reading → List Pair → Stop → Type 0
@@ -22,6 +23,7 @@ StopsReadingGraphs reading pairs (Unread file) =
     × MatchOption reading.files (Rose reading.faults_before reading.faults_after) (λ files. (graphs_due files [] pairs ≡ Err (Unread file)) ⊎ Rose reading.faults_before reading.faults_after)
 StopsReadingGraphs reading pairs (TooLarge file) = IsTurnOfGraph reading.files pairs file × IsDueFor reading pairs (TooLarge file)
 StopsReadingGraphs reading pairs (Refused refusal file) = IsTurnOfGraph reading.files pairs file × IsDueFor reading pairs (Refused refusal file)
+StopsReadingGraphs reading pairs (Text refusal) = ⊥
 StopsReadingGraphs reading pairs NotBuilt = IsDueFor reading pairs NotBuilt
 StopsReadingGraphs reading pairs Unwritten = ⊥
 StopsReadingGraphs reading pairs OutOfMemory = ⊤
@@ -34,4 +36,5 @@ ReadsGraphs reading pairs (Err stop) = StopsReadingGraphs reading pairs stop
 -- a stop as the machine holds it
 abbrev pub IsHeldStop : Stop → Type 0
 IsHeldStop (Refused refusal file) = IsHeld refusal
+IsHeldStop (Text refusal) = IsHeldText refusal
 IsHeldStop stop = ⊤

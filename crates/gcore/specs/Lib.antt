@@ -7,4 +7,6 @@ pub mod MakeLines
 pub mod Outcomes
 pub mod Pairs
 pub mod Steps
-pub mod ThinQueries
+pub mod QueryFiles
+pub mod TextLines
+pub mod ThinTrees

@@ -1,13 +1,16 @@
 -- The lines on standard error, and what a stopped call stands for.
 use Rattle.std.specs.Prelude.{ℕ, List, [], ◌∷◌, ◌++◌, codes}
 use Rattle.std.specs.Fmt.{decimal}
+use Rattle.gc_base.specs.declared.place.Place.{Place}
 use Rattle.gc_json.specs.declared.refusal.GraphRefusal.{GraphRefusal}
 use Rattle.gc_json.specs.declared.refusal.Spot.{Spot}
 use Rattle.gcore.specs.GraphLines.{refusal_text, spot_text}
+use Rattle.gcore.specs.TextLines.{place_text, text_refusal_text}
 use Rattle.gcore.specs.declared.status.Status.{Status}
 use Rattle.gcore.specs.declared.status.Status.TheVariants as status
 use Rattle.gcore.specs.declared.stop.Stop.{Stop}
-use Rattle.gcore.specs.declared.stop.Stop.TheVariants.{Usage, Unread, TooLarge, Refused, NotBuilt, Unwritten, OutOfMemory}
+use Rattle.gcore.specs.declared.stop.Stop.TheVariants.{Usage, Unread, TooLarge, Refused, Text, NotBuilt, Unwritten, OutOfMemory}
+use Rattle.gcore.specs.declared.text_refusal.TextRefusal.{TextRefusal}
 
 -- a line begins with the program's name and ends with a line feed
 abbrev pub line : List ℕ → List ℕ
@@ -17,12 +20,17 @@ line message = codes "gcore: " ++ (message ++ 10 ∷ [])
 abbrev pub refusal_line : GraphRefusal → List ℕ → List ℕ
 refusal_line refusal file = line (refusal_text refusal ++ (codes " in " ++ file))
 
+-- the line of a query file that is refused
+abbrev pub text_line : TextRefusal → List ℕ
+text_line refusal = line (text_refusal_text refusal)
+
 -- the line of each stop
 abbrev pub line_of : Stop → List ℕ
 line_of Usage = line (codes "usage")
 line_of (Unread file) = line (codes "cannot read " ++ file)
 line_of (TooLarge file) = line (codes "too large " ++ file)
 line_of (Refused refusal file) = refusal_line refusal file
+line_of (Text refusal) = text_line refusal
 line_of NotBuilt = line (codes "not built")
 line_of Unwritten = line (codes "cannot write")
 line_of OutOfMemory = line (codes "out of memory")
@@ -38,12 +46,21 @@ digits_line rule list index gap id file = line (rule ++ ((list ++ (index ++ code
 abbrev pub item_line : List ℕ → List ℕ → ℕ → List ℕ → List ℕ → List ℕ → List ℕ
 item_line rule list index gap id file = digits_line rule list (decimal index) gap id file
 
+-- the line of a rule that a query file breaks at a place
+abbrev pub place_line : List ℕ → Place → List ℕ
+place_line rule place = line (place_text rule place)
+
+-- the same with the line and the column in digits
+abbrev pub numbers_line : List ℕ → List ℕ → List ℕ → List ℕ
+numbers_line rule row column = line (rule ++ (codes " " ++ (row ++ (codes ":" ++ column))))
+
 -- the status of each stop
 abbrev pub status_of : Stop → Status
 status_of Usage = status.Usage
 status_of (Unread file) = status.Read
 status_of (TooLarge file) = status.Size
 status_of (Refused refusal file) = status.Graph
+status_of (Text refusal) = status.Text
 status_of NotBuilt = status.NotBuilt
 status_of Unwritten = status.Write
 status_of OutOfMemory = status.Memory
@@ -52,6 +69,7 @@ status_of OutOfMemory = status.Memory
 abbrev pub code_of : Status → ℕ
 code_of status.Done = 0
 code_of status.Usage = 2
+code_of status.Text = 3
 code_of status.Graph = 5
 code_of status.Read = 6
 code_of status.Write = 7

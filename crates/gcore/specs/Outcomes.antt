@@ -8,7 +8,8 @@ use Rattle.gc_json.specs.CanonicalText.{canonical_text}
 use Rattle.gc_json.specs.FileElements.{Seen}
 use Rattle.gc_json.specs.GraphFiles.{file_graph}
 use Rattle.gc_json.specs.declared.refusal.GraphRefusal.{GraphRefusal}
-use Rattle.gcore.specs.ThinQueries.{thin_label}
+use Rattle.gcore.specs.QueryFiles.{statements_of}
+use Rattle.gcore.specs.ThinTrees.{thin_label}
 use Rattle.gcore.specs.declared.command.Command.{Command}
 use Rattle.gcore.specs.declared.command.Command.TheVariants.{Run, Cert, Explain, Check, Make}
 use Rattle.gcore.specs.declared.command.CommandRefusal.{CommandRefusal}
@@ -57,9 +58,13 @@ abbrev pub built : {A : Type 0} → Option A → Result A Stop
 built None = Err NotBuilt
 built (Some x) = Ok x
 
+-- the label that the bytes of a query file ask for
+abbrev pub label_of : List ℕ → Result (List ℕ) Stop
+label_of bytes = then_due (statements_of bytes) (λ statements. built (thin_label statements))
+
 -- the label of a query file
 abbrev pub label_due : Files → List ℕ → Result (List ℕ) Stop
-label_due files name = then_due (file_due files name query_limit) (λ bytes. built (thin_label bytes))
+label_due files name = then_due (file_due files name query_limit) label_of
 
 -- the text of the nodes of a label, and a line feed
 unfoldable pub printed : PropertyGraph → List ℕ → List ℕ

@@ -1,9 +1,9 @@
 -- What each step of a call answers.
-use Rattle.std.specs.Prelude.{◌≡◌, ℕ, List, Option, Some, None, Result, Ok, Err, IfSome, MatchOption, ⊤, ◌⊎◌}
+use Rattle.std.specs.Prelude.{◌≡◌, ℕ, List, Option, Result, Ok, Err, IfSome, MatchOption, ⊤, ◌⊎◌}
 use Rattle.gc_base.specs.Faults.{Rose}
 use Rattle.gc_base.specs.Files.{Files}
 use Rattle.gcore.specs.declared.stop.Stop.{Stop}
-use Rattle.gcore.specs.declared.stop.Stop.TheVariants.{Usage, Unread, TooLarge, Refused, NotBuilt, Unwritten, OutOfMemory}
+use Rattle.gcore.specs.declared.stop.Stop.TheVariants.{Usage, Unread, TooLarge, Refused, Text, NotBuilt, Unwritten, OutOfMemory}
 
 -- a folder in a step: its files, where it tells them, and its count of faults before and after
 pub record Reading : Type 0 where
@@ -18,16 +18,18 @@ StopsReading reading name due (Unread file) =
     (file ≡ name) × MatchOption reading.files (Rose reading.faults_before reading.faults_after) (λ files. (due files ≡ Err (Unread file)) ⊎ Rose reading.faults_before reading.faults_after)
 StopsReading reading name due (TooLarge file) = (file ≡ name) × IfSome reading.files (λ files. due files ≡ Err (TooLarge file))
 StopsReading reading name due (Refused refusal file) = ⊥
+StopsReading reading name due (Text refusal) = ⊥
 StopsReading reading name due NotBuilt = IfSome reading.files (λ files. due files ≡ Err NotBuilt)
 StopsReading reading name due Unwritten = ⊥
 StopsReading reading name due OutOfMemory = ⊤
 
--- what is built of bytes is given, or refused as not built
-abbrev pub Builds : {A : Type 0} → Option A → Result A Stop → Type 0
-Builds due (Ok x) = due ≡ Some x
-Builds due (Err NotBuilt) = due ≡ None
-Builds due (Err OutOfMemory) = ⊤
-Builds due (Err stop) = ⊥
+-- what the bytes of a query file ask for is given, or the refusal is told, or that it is not built
+abbrev pub Asks : {A : Type 0} → Result A Stop → Result A Stop → Type 0
+Asks due (Ok x) = due ≡ Ok x
+Asks due (Err (Text refusal)) = due ≡ Err (Text refusal)
+Asks due (Err NotBuilt) = due ≡ Err NotBuilt
+Asks due (Err OutOfMemory) = ⊤
+Asks due (Err stop) = ⊥
 
 -- a graph that is due is given, or the rule that is broken is told
 abbrev pub Accepts : {A : Type 0} → Result A Stop → Result A Stop → Type 0
@@ -47,3 +49,12 @@ StopsReadingGraph reading name due stop = StopsReading reading name due stop
 abbrev pub ReadsGraph : {A : Type 0} → Reading → List ℕ → (Files → Result A Stop) → Result A Stop → Type 0
 ReadsGraph reading name due (Ok x) = IfSome reading.files (λ files. due files ≡ Ok x)
 ReadsGraph reading name due (Err stop) = StopsReadingGraph reading name due stop
+
+-- the same of a query file, which may be refused
+abbrev pub StopsReadingQuery : {A : Type 0} → Reading → List ℕ → (Files → Result A Stop) → Stop → Type 0
+StopsReadingQuery reading name due (Text refusal) = IfSome reading.files (λ files. due files ≡ Err (Text refusal))
+StopsReadingQuery reading name due stop = StopsReading reading name due stop
+
+abbrev pub ReadsQuery : {A : Type 0} → Reading → List ℕ → (Files → Result A Stop) → Result A Stop → Type 0
+ReadsQuery reading name due (Ok x) = IfSome reading.files (λ files. due files ≡ Ok x)
+ReadsQuery reading name due (Err stop) = StopsReadingQuery reading name due stop

@@ -1,12 +1,12 @@
 ghost use Rattle.std.specs.Prelude.{◌≡◌, ◌≤◌, true, IfOk};
 ghost use Rattle.gc_json.specs.GraphFiles.{file_graph};
 ghost use Rattle.gc_ppg.specs.Shapes.{graph_agrees};
-ghost use Rattle.gcore.specs.Outcomes.{accepted, file_due, graph_due, label_due};
-ghost use Rattle.gcore.specs.Steps.{Accepts, Builds, Reads, ReadsGraph, Reading};
-ghost use Rattle.gcore.specs.ThinQueries.{thin_label};
+ghost use Rattle.gcore.specs.Outcomes.{accepted, file_due, graph_due, label_due, label_of};
+ghost use Rattle.gcore.specs.Steps.{Accepts, Asks, Reads, ReadsGraph, ReadsQuery, Reading};
 
+use crate::query_file::query_file;
 use crate::stop::Stop;
-use crate::thin::thin_query_label;
+use crate::thin_tree::thin_label;
 use gc_base::{Bytes, Duplicate, Name, Str};
 use gc_io::{Folder, ReadRefusal, read_whole};
 use gc_json::{GraphRefusal, load};
@@ -49,7 +49,7 @@ fn load_named(alloc: Global, bytes: &[u8], name: &Str, seen: &Coherence) -> Resu
 
 /// The label of a query file.
 pub fn read_label<F: Folder>(alloc: Global, folder: &mut F, name: &Str) -> Result<Name, Stop>
-    ensures outcome { Reads (record { files = F.files folder.old; faults_before = F.faults folder.old; faults_after = F.faults folder.new }) name.now (λ files. label_due files name.now) result }
+    ensures outcome { ReadsQuery (record { files = F.files folder.old; faults_before = F.faults folder.old; faults_after = F.faults folder.new }) name.now (λ files. label_due files name.now) result }
     ensures later { F.faults folder.old ≤ F.faults folder.new }
     ensures kept { F.files folder.new ≡ F.files folder.old }
 {
@@ -57,11 +57,13 @@ pub fn read_label<F: Folder>(alloc: Global, folder: &mut F, name: &Str) -> Resul
     label_in(alloc, bytes.as_slice())
 }
 
+// The label that the bytes of a query file ask for.
 fn label_in(alloc: Global, bytes: &[u8]) -> Result<Name, Stop>
-    ensures { Builds (thin_label bytes.now) result }
+    ensures { Asks (label_of bytes.now) result }
 {
-    match thin_query_label(alloc, bytes)? {
-        Some(label) => Ok(label),
+    let file = query_file(alloc, bytes)?;
+    match thin_label(&file) {
+        Some(label) => Ok(label.copy()?),
         None => Err(Stop::NotBuilt),
     }
 }

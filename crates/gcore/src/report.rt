@@ -1,10 +1,12 @@
 ghost use Rattle.std.specs.Prelude.{◌≡◌, ◌++◌, codes, length};
 ghost use Rattle.gc_base.specs.Sinks.{HasRoom};
 ghost use Rattle.gc_io.specs.Pieces.{joined};
-ghost use Rattle.gcore.specs.Lines.{line, line_of, refusal_line, spot_line, item_line, digits_line};
+ghost use Rattle.gcore.specs.Lines.{line, line_of, refusal_line, spot_line, item_line, digits_line, text_line, place_line, numbers_line};
 ghost use Rattle.gcore.specs.Endings.{Change, Tells};
 
 use crate::stop::Stop;
+use crate::text_refusal::TextRefusal;
+use gc_base::Place;
 use gc_io::{Sink, write_pieces};
 use gc_json::{GraphRefusal, Part, Spot};
 use itoa::Buffer;
@@ -19,6 +21,7 @@ pub fn tell<T: Sink>(stop: &Stop, err: &mut T)
         Stop::Unread(file) => tell_line(err, b"cannot read ", file.text().as_bytes()),
         Stop::TooLarge(file) => tell_line(err, b"too large ", file.text().as_bytes()),
         Stop::Refused(refusal, file) => tell_refusal(err, refusal, file.text().as_bytes()),
+        Stop::Text(refusal) => tell_text(err, *refusal),
         Stop::NotBuilt => tell_line(err, b"not built", b""),
         Stop::Unwritten => tell_line(err, b"cannot write", b""),
         Stop::OutOfMemory => tell_line(err, b"out of memory", b""),
@@ -127,6 +130,43 @@ fn tell_digits<T: Sink>(
             b"gcore: ", rule, list, index, b"]", gap, id, b" in ", file, b"\n",
         ],
     );
+}
+
+// The line of a query file that is refused.
+fn tell_text<T: Sink>(err: &mut T, refusal: TextRefusal)
+    requires { HasRoom (T.room err.old) (length (text_line refusal)) }
+    ensures { Tells (record { faults_before = T.faults err.old; faults_after = T.faults err.new; taken_before = T.taken err.old; taken_after = T.taken err.new }) (text_line refusal) }
+{
+    match refusal {
+        TextRefusal::NotUtf8(place) => tell_place(err, b"L1 NotUtf8", place),
+        TextRefusal::BadCharacter(place) => tell_place(err, b"L2 BadCharacter", place),
+        TextRefusal::OpenText(place) => tell_place(err, b"L3 OpenText", place),
+        TextRefusal::NumberTooLarge(place) => tell_place(err, b"L4 NumberTooLarge", place),
+        TextRefusal::TooDeep(place) => tell_place(err, b"P1 TooDeep", place),
+        TextRefusal::Syntax(place) => tell_place(err, b"P2 Syntax", place),
+    }
+}
+
+// The line of a rule that a query file breaks at a place.
+fn tell_place<T: Sink>(err: &mut T, rule: &[u8], place: Place)
+    requires { HasRoom (T.room err.old) (length (place_line rule.now place)) }
+    ensures { Tells (record { faults_before = T.faults err.old; faults_after = T.faults err.new; taken_before = T.taken err.old; taken_after = T.taken err.new }) (place_line rule.now place) }
+{
+    let mut line = Buffer::new();
+    let mut column = Buffer::new();
+    tell_numbers(
+        err,
+        rule,
+        line.format(place.line).as_bytes(),
+        column.format(place.column).as_bytes(),
+    );
+}
+
+fn tell_numbers<T: Sink>(err: &mut T, rule: &[u8], line: &[u8], column: &[u8])
+    requires { HasRoom (T.room err.old) (length (numbers_line rule.now line.now column.now)) }
+    ensures { Tells (record { faults_before = T.faults err.old; faults_after = T.faults err.new; taken_before = T.taken err.old; taken_after = T.taken err.new }) (numbers_line rule.now line.now column.now) }
+{
+    tell_pieces(err, &[b"gcore: ", rule, b" ", line, b":", column, b"\n"]);
 }
 
 fn tell_pieces<T: Sink>(err: &mut T, pieces: &[&[u8]])

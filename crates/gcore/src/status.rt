@@ -8,6 +8,8 @@ pub enum Status {
     Done = 0,
     /// The words have none of the forms.
     Usage = 2,
+    /// The query file is refused.
+    Text = 3,
     /// A graph file breaks a rule.
     Graph = 5,
     /// A named file can't be read.

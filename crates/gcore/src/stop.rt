@@ -1,12 +1,15 @@
 ghost use Rattle.std.specs.Prelude.{◌≡◌};
 ghost use Rattle.gcore.specs.GraphLines.{IsHeld, IsHeldSpot};
 ghost use Rattle.gcore.specs.Lines.{line_of, status_of};
+ghost use Rattle.gcore.specs.TextLines.{IsHeldText, IsHeldPlace};
 
 use crate::command::CommandRefusal;
 use crate::status::Status;
-use gc_base::{Memory, Str};
+use crate::text_refusal::TextRefusal;
+use gc_base::{Memory, Place, Str};
 use gc_io::SinkFault;
 use gc_json::{GraphRefusal, Spot};
+use gc_lex::LexRefusal;
 
 /// Why a call ends without being done, with the word of the file that it is about.
 #[derive(Debug, Drop)]
@@ -19,6 +22,8 @@ pub enum Stop {
     TooLarge(Str),
     /// A graph file breaks a rule.
     Refused(GraphRefusal, Str),
+    /// The query file is refused.
+    Text(TextRefusal),
     /// What is asked for is not built yet.
     NotBuilt,
     /// The output failed.
@@ -37,6 +42,7 @@ impl Stop {
             Stop::Unread(_) => Status::Read,
             Stop::TooLarge(_) => Status::Size,
             Stop::Refused(_, _) => Status::Graph,
+            Stop::Text(_) => Status::Text,
             Stop::NotBuilt => Status::NotBuilt,
             Stop::Unwritten => Status::Write,
             Stop::OutOfMemory => Status::Memory,
@@ -53,6 +59,7 @@ impl Stop {
     {
         match self {
             Stop::Refused(refusal, _) => known_refusal(refusal),
+            Stop::Text(refusal) => known_text(*refusal),
             _ => {}
         }
     }
@@ -88,6 +95,28 @@ fn known_spot(spot: Spot)
     let _index = spot.index;
 }
 
+// That a refusal of a query file is as the machine holds it, for a proof.
+fn known_text(refusal: TextRefusal)
+    ensures { IsHeldText refusal }
+{
+    match refusal {
+        TextRefusal::NotUtf8(place) => known_place(place),
+        TextRefusal::BadCharacter(place) => known_place(place),
+        TextRefusal::OpenText(place) => known_place(place),
+        TextRefusal::NumberTooLarge(place) => known_place(place),
+        TextRefusal::TooDeep(place) => known_place(place),
+        TextRefusal::Syntax(place) => known_place(place),
+    }
+}
+
+// That a place is as the machine holds it, for a proof.
+fn known_place(place: Place)
+    ensures { IsHeldPlace place }
+{
+    let _line = place.line;
+    let _column = place.column;
+}
+
 impl From<Memory> for Stop {
     ghost use Rattle.std.specs.Prelude.{◌≡◌};
     ghost use Rattle.gcore.specs.declared.stop.Stop.TheVariants.{OutOfMemory};
@@ -120,6 +149,23 @@ impl From<CommandRefusal> for Stop {
         match refusal {
             CommandRefusal::Usage => Stop::Usage,
             CommandRefusal::Memory => Stop::OutOfMemory,
+        }
+    }
+}
+
+impl From<LexRefusal> for Stop {
+    ghost use Rattle.std.specs.Prelude.{◌≡◌};
+    ghost use Rattle.gcore.specs.QueryFiles.{stop_of_lex};
+
+    ghost from_gives = { λ refusal stop. stop ≡ stop_of_lex refusal };
+
+    fn from(refusal: LexRefusal) -> Stop {
+        match refusal {
+            LexRefusal::NotUtf8(place) => Stop::Text(TextRefusal::NotUtf8(place)),
+            LexRefusal::BadCharacter(place) => Stop::Text(TextRefusal::BadCharacter(place)),
+            LexRefusal::OpenText(place) => Stop::Text(TextRefusal::OpenText(place)),
+            LexRefusal::NumberTooLarge(place) => Stop::Text(TextRefusal::NumberTooLarge(place)),
+            LexRefusal::Memory => Stop::OutOfMemory,
         }
     }
 }

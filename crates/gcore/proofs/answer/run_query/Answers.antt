@@ -2,7 +2,7 @@ use Rattle.std.proofs.Common.{◌≡◌, Option, Ok, sym, ap, ◌∙◌, subst, 
 use Rattle.std.specs.Prelude.{IfSome}
 use Rattle.gc_base.specs.Files.{Files}
 use Rattle.gcore.specs.Outcomes.{label_due}
-use Rattle.gcore.specs.Steps.{StopsReading}
+use Rattle.gcore.specs.Steps.{StopsReadingQuery}
 use Rattle.gcore.proofs.GraphsRead.{graphs_differ}
 use Rattle.gcore.proofs.RunLaws.{room_holds, label_stops, written, answers_stop}
 use Rattle.gcore.proofs.answer.run_query.Goals as goal
@@ -24,8 +24,8 @@ returns-in_err-label-clause-outcome g c =
     let after = g.F.Folder.faults c.read_label.new.folder in
     let query = c.args.query.now in
     let stop = c.in_err-label.field-0.0 in
-    let reads : StopsReading (record { files = told; faults_before = middle; faults_after = after }) query (λ files. label_due files query) stop
-    = subst (λ files. StopsReading (record { files = files; faults_before = middle; faults_after = after }) query (λ files. label_due files query) stop)
+    let reads : StopsReadingQuery (record { files = told; faults_before = middle; faults_after = after }) query (λ files. label_due files query) stop
+    = subst (λ files. StopsReadingQuery (record { files = files; faults_before = middle; faults_after = after }) query (λ files. label_due files query) stop)
     c.in_ok-catalog.ensures.kept c.in_err-label.ensures.outcome in
     let stops = label_stops query c.args.pairs.now told c.in_ok-catalog.catalog.graphs before middle after (g.S.Sink.faults c.args.out.now) (g.S.Sink.taken c.args.out.now) stop
     c.in_ok-catalog.ensures.outcome.2 c.in_ok-catalog.ensures.later reads in

@@ -3,7 +3,7 @@ use Rattle.std.specs.Prelude.{codes}
 use Rattle.gcore.specs.Lines.{line, line_of}
 use Rattle.gcore.specs.Endings.{Change, Tells}
 use Rattle.gcore.specs.declared.stop.Stop.{Stop}
-use Rattle.gcore.specs.declared.stop.Stop.TheVariants.{Unread, TooLarge, NotBuilt, Unwritten, OutOfMemory}
+use Rattle.gcore.specs.declared.stop.Stop.TheVariants.{Unread, TooLarge, Text, NotBuilt, Unwritten, OutOfMemory}
 use Rattle.gcore.proofs.report.tell.Goals as goal
 
 -- the line of a stop
@@ -22,6 +22,9 @@ pub returns-in-TooLarge : goal.returns-in-TooLarge
 returns-in-TooLarge g c =
     told _ c.args.stop.now (TooLarge c.in-TooLarge.file) c.in-TooLarge.is
     (of_file _ (codes "too large ") _ c.in-TooLarge.file (c.as_bytes-in-TooLarge.ensures.value ∙ c.text-in-TooLarge.ensures) c.tell_line-in-TooLarge.ensures)
+
+pub returns-in-Text : goal.returns-in-Text
+returns-in-Text g c = told _ c.args.stop.now (Text c.in-Text.refusal) c.in-Text.is c.tell_text.ensures
 
 pub returns-in-NotBuilt : goal.returns-in-NotBuilt
 returns-in-NotBuilt g c = told _ c.args.stop.now NotBuilt c.in-NotBuilt.is c.tell_line-in-NotBuilt.ensures

@@ -1,13 +1,13 @@
 use Rattle.std.proofs.Common.{ℕ, suc, List, [], ◌∷◌, ◌++◌, map, Some, None, Option, refl, sym, subst, arith, inl, inr}
 use Rattle.std.specs.Prelude.{IsSomeAnd, Contains}
 use Rattle.gc_base.specs.Files.{Files}
-use Rattle.gcore.specs.Endings.{Call, IsTurnOf, IsTurnOfGraph, MayStop, StopsFor, graphs_of, graph_files, named_files}
+use Rattle.gcore.specs.Endings.{Call, IsTurnOf, IsTurnOfGraph, IsTurnOfItsQuery, HasQuery, MayStop, StopsFor, graphs_of, graph_files, named_files}
 use Rattle.gcore.specs.GraphSteps.{IsHeldStop}
 use Rattle.gcore.specs.declared.command.Command.{Command}
 use Rattle.gcore.specs.declared.command.Command.TheVariants.{Run, Cert, Explain, Check, Make}
 use Rattle.gcore.specs.declared.pair.Pair.{Pair}
 use Rattle.gcore.specs.declared.stop.Stop.{Stop}
-use Rattle.gcore.specs.declared.stop.Stop.TheVariants.{Usage, Unread, TooLarge, Refused, NotBuilt, Unwritten, OutOfMemory}
+use Rattle.gcore.specs.declared.stop.Stop.TheVariants.{Usage, Unread, TooLarge, Refused, Text, NotBuilt, Unwritten, OutOfMemory}
 use Rattle.gcore.proofs.top.gcore.Goals as goal
 
 abbrev files_of : List Pair → List (List ℕ)
@@ -40,11 +40,20 @@ is_named_graph : (command : Option Command) (told : Option Files) (file : List �
 is_named_graph None told file h = absurd h
 is_named_graph (Some command) told file h = is_graph_file told (graphs_of command) file h
 
+has_query : (command : Option Command) (told : Option Files) → IsSomeAnd command (λ c. IsTurnOfItsQuery told c) → IsSomeAnd command HasQuery
+has_query None told h = absurd h
+has_query (Some (Run query pairs)) told h = tt
+has_query (Some (Cert query pairs)) told h = absurd h
+has_query (Some (Explain query pairs)) told h = absurd h
+has_query (Some (Check document)) told h = absurd h
+has_query (Some (Make kind size start)) told h = absurd h
+
 may_stop : (call : Call) (stop : Stop) → IsHeldStop stop → StopsFor call stop → MayStop call.command stop
 may_stop call Usage held h = tt
 may_stop call (Unread file) held h = is_named call.command call.files file h.0
 may_stop call (TooLarge file) held h = is_named call.command call.files file h.0
 may_stop call (Refused refusal file) held h = (is_named_graph call.command call.files file h.0, held)
+may_stop call (Text refusal) held h = (has_query call.command call.files h.0, held)
 may_stop call NotBuilt held h = tt
 may_stop call Unwritten held h = tt
 may_stop call OutOfMemory held h = tt

@@ -1,0 +1,11 @@
+use Rattle.gcore.proofs.QueryFileLaws.{asked_as_spelled, asked_too_deep, asked_refused}
+use Rattle.gcore.proofs.laws.a_query_file_asks_what_its_tokens_spell.Goals as goal
+
+pub returns-clause-spelled : goal.returns-clause-spelled
+returns-clause-spelled c = asked_as_spelled
+
+pub returns-clause-deep : goal.returns-clause-deep
+returns-clause-deep c = asked_too_deep
+
+pub returns-clause-refused : goal.returns-clause-refused
+returns-clause-refused c = asked_refused
