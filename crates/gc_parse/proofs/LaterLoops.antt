@@ -1,5 +1,5 @@
 -- How the loop over the statements of a file goes on.
-use Rattle.std.proofs.Common.{◌≡◌, refl, ap, sym, ◌∙◌, ℕ, zero, suc, ◌+◌, ◌<◌, ◌≤◌, ◌-◌, true, false, if◌then◌else◌, List, [], ◌∷◌, ◌++◌, length, map, subst, drop, Option, Some, None, Result, Ok, Err}
+use Rattle.std.proofs.Common.{◌≡◌, refl, ap, sym, ◌∙◌, ℕ, zero, suc, ◌+◌, ◌<◌, ◌-◌, List, [], ◌∷◌, ◌++◌, length, map, subst, drop, Option, Some, None, Result, Err}
 use Rattle.std.specs.Option.{option_map}
 use Rattle.std.proofs.Math.Dec.{leb, leb-suc-suc}
 use Rattle.std.proofs.lemmas.Bool.{le-leb, lt-leb}
@@ -7,7 +7,7 @@ use Rattle.std.proofs.lemmas.List.{append_assoc, append-nil, map-append}
 use Rattle.gc_lex.specs.declared.token.Token.{Token}
 use Rattle.gc_lex.specs.declared.token.Mark.TheVariants as mark
 use Rattle.gc_grammar.specs.Words.{Point}
-use Rattle.gc_grammar.specs.Readers.{Reader, Reading, Got, Stuck, then_read, in_front, read_mark, read_behind, read_both, read_made}
+use Rattle.gc_grammar.specs.Readers.{Reader, Reading, Got, Stuck, then_read, in_front, read_mark, read_both, read_made}
 use Rattle.gc_parse.specs.LaterReaders.{ended, read_next, read_unless_ended}
 use Rattle.gc_parse.specs.QueryReaders.{read_later, read_unless_end}
 use Rattle.gc_parse.specs.declared.refusal.Refusal.{Refusal}

@@ -1,11 +1,7 @@
 -- Whole query files: what the reader of files gives for them.
-use Rattle.std.proofs.Common.{◌≡◌, refl, sym, ap, subst, ◌∙◌, ℕ, zero, suc, ◌+◌, ◌-◌, ◌<◌, ◌≤◌, List, [], ◌∷◌, ◌++◌, length, take, drop, map, Result, Ok, Err, Option, Some, None, slice_get}
+use Rattle.std.proofs.Common.{◌≡◌, refl, sym, ap, subst, ◌∙◌, ℕ, zero, suc, ◌+◌, ◌-◌, List, [], ◌∷◌, ◌++◌, length, take, drop, Result, Ok, Err, Some, None, slice_get}
 use Rattle.gc_ast.specs.Trees.{Tree, AStatement}
-use Rattle.gc_ast.specs.declared.query.Statement.{Statement}
-use Rattle.gc_ast.specs.QueryViews.{statement_tree}
-use Rattle.gc_expr.specs.Views.{Names}
 use Rattle.gc_lex.specs.declared.token.Token.{Token}
-use Rattle.gc_grammar.specs.Words.{Point}
 use Rattle.gc_grammar.specs.Readers.{Got, Stuck}
 use Rattle.gc_grammar.specs.Queries.{SpellsFile, start}
 use Rattle.gc_parse.specs.declared.refusal.Refusal.{Refusal}

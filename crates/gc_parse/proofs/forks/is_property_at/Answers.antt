@@ -1,4 +1,4 @@
-use Rattle.std.proofs.Common.{sym, ◌∙◌, ◌+◌, [], ◌∷◌, drop}
+use Rattle.std.proofs.Common.{sym, ◌∙◌, [], ◌∷◌}
 use Rattle.gc_lex.specs.declared.token.Mark.TheVariants as mark
 use Rattle.gc_grammar.specs.Kinds.{mark_kind, name_kind, word_kind}
 use Rattle.gc_parse.proofs.Fronts.{begins_next}
