@@ -1,0 +1,9 @@
+pub mod AsciiTexts
+pub mod ExpressionsReadBack
+pub mod GrammarGives
+pub mod LexedExpressions
+pub mod LexedTexts
+pub mod LexedWords
+pub mod Lexing
+pub mod PartTexts
+pub mod SpelledExpressions

@@ -1,0 +1,6 @@
+pub mod Expressions
+pub mod LooseTrees
+pub mod ReadingBack
+pub mod RegexTexts
+pub mod RegexTokens
+pub mod WrittenTokens
