@@ -1,0 +1,9 @@
+pub mod Counts
+pub mod Entering
+pub mod Inclusion
+pub mod Lawful
+pub mod Leaving
+pub mod Orders
+pub mod Ranges
+pub mod Turns
+pub mod WalkLaws

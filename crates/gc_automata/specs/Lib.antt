@@ -1,0 +1,7 @@
+pub mod Automata
+pub mod Building
+pub mod Conformance
+pub mod Machines
+pub mod Moves
+pub mod Runs
+pub mod WithParts
