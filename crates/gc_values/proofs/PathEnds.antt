@@ -1,8 +1,6 @@
 -- A node or an edge on a walk, as an expression.
-use Rattle.std.proofs.Common.{◌≡◌, ap, ◌∙◌, rules, Box, Global}
+use Rattle.std.proofs.Common.{◌≡◌, rules, Box, Global}
 use Rattle.gc_base.specs.declared.place.Sym.{Sym}
-use Rattle.gc_expr.specs.Trees as tree
-use Rattle.gc_expr.specs.Trees.{At}
 use Rattle.gc_expr.specs.Views.{numbered_expr, numbered_node}
 use Rattle.gc_expr.specs.declared.expr.Expr.{Expr}
 use Rattle.gc_expr.specs.declared.expr.ExprNode.{the_lemmas}

@@ -1,5 +1,5 @@
 -- Arithmetic on values: exact over the whole numbers, or undefined.
-use Rattle.std.specs.Prelude.{◌^◌, ℤ, zero, pos, negsuc, ◌+ℤ◌, ◌-ℤ◌, ◌*ℤ◌, neg_ℤ, int_div, int_rem, Bool, true, false, nat_lt, List, [], ◌∷◌, Option, Some, None, Result, Ok, Err, if◌then◌else◌}
+use Rattle.std.specs.Prelude.{◌^◌, ℤ, zero, pos, negsuc, ◌+ℤ◌, ◌-ℤ◌, ◌*ℤ◌, neg_ℤ, int_div, int_rem, Bool, true, false, nat_lt, [], ◌∷◌, Option, Some, None, Result, Ok, Err, if◌then◌else◌}
 use Rattle.gc_base.specs.declared.literal.Literal.{Literal}
 use Rattle.gc_base.specs.declared.literal.Literal.TheVariants as literal
 use Rattle.gc_expr.specs.declared.expr.ProductOp.{ProductOp}

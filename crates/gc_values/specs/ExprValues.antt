@@ -1,5 +1,5 @@
 -- The value of an expression.
-use Rattle.std.specs.Prelude.{ℕ, ◌+◌, List, [], ◌∷◌, drop, Option, Some, None, slice_get, unwrap_or}
+use Rattle.std.specs.Prelude.{ℕ, ◌+◌, List, [], drop, Option, Some, None, slice_get, unwrap_or}
 use Rattle.gc_base.specs.Walks.{edges_of}
 use Rattle.gc_base.specs.declared.literal.Literal.TheVariants as literal
 use Rattle.gc_base.specs.declared.place.Sym.{Sym}

@@ -1,4 +1,4 @@
-use Rattle.std.proofs.Common.{ap, sym, ◌∙◌}
+use Rattle.std.proofs.Common.{ap, ◌∙◌}
 use Rattle.gc_values.specs.Arithmetic.{operated}
 use Rattle.gc_values.proofs.Chains.{sum_next, sum_left, product_next, product_left}
 use Rattle.gc_values.proofs.values.+value.Goals as goal
