@@ -1,0 +1,142 @@
+#![tactic(auto, using(crate::proofs::KleeneLaws::both_assoc, crate::proofs::KleeneLaws::both_Yes, crate::proofs::KleeneLaws::either_assoc, crate::proofs::KleeneLaws::either_No), unfolding(gc_expr::specs::Views::numbered_expr, gc_expr::specs::Views::numbered_node, crate::specs::ExprTruths::truth_of, crate::specs::ExprTruths::node_truth, crate::specs::ExprTruths::all_of, crate::specs::ExprTruths::any_of))]
+
+ghost use Rattle.std.specs.Prelude.{◌≡◌, [], map, IfOk, slice_get};
+ghost use Rattle.gc_expr.specs.Trees.{row};
+ghost use Rattle.gc_expr.specs.Views.{numbered_expr};
+ghost use Rattle.gc_values.specs.Contexts.{Context};
+ghost use Rattle.gc_values.specs.Descriptions.{expr_described};
+ghost use Rattle.gc_values.specs.ExprValues.{value_of};
+ghost use Rattle.gc_values.specs.ExprTruths.{answered, truth_of, all_of, any_of};
+
+use crate::compared::compared;
+use crate::context::Context;
+use crate::described::{Seen, expr_described, label_truth, variable_described};
+use crate::folded::Folded;
+use crate::reads::{MadeList, Reads};
+use crate::truth3::Truth3;
+use crate::val::Val;
+use crate::values::value_of;
+use gc_base::{Memory, Steps};
+use gc_expr::{Expr, ExprList, ExprNode};
+use gc_ppg::GraphList;
+use gc_rows::Row;
+use std::alloc::Global;
+use std::sync::ledger::Ledger;
+
+/// The truth of a condition on a row. `answers` has the answers to the EXISTS queries beside it, by
+/// their numbers; one that is not told is unknown. What is no condition is unknown.
+pub fn truth<L: Ledger>(
+    alloc: Global,
+    expr: &Expr,
+    row: &Row,
+    reads: &Reads,
+    graphs: &GraphList,
+    made: &MadeList,
+    answers: &[bool],
+    steps: &mut Steps<L>,
+) -> Result<Truth3, Memory>
+    ensures { let ctx : Context = record { row = row.now; reads = reads.now; graphs = graphs.now; made = made.now } in
+        IfOk result (λ t. t ≡ truth_of ctx answers.now (numbered_expr expr.now)) }
+{
+    let context = Context {
+        alloc,
+        row,
+        reads,
+        graphs,
+        made,
+    };
+    truth_of(&context, expr, answers, steps)
+}
+
+#[cycle(truth)]
+fn truth_of<L: Ledger>(
+    context: &Context<'_>,
+    expr: &Expr,
+    answers: &[bool],
+    steps: &mut Steps<L>,
+) -> Result<Truth3, Memory>
+    ensures { IfOk result (λ t. t ≡ truth_of context.now answers.now (numbered_expr expr.now)) }
+{
+    match &expr.node {
+        ExprNode::Labelled(of, label) => {
+            let value = plain_value(context, of, steps)?;
+            Ok(label_truth(&expr_described(context, of, &value, steps), label))
+        }
+        ExprNode::Compare(how, left, right) => {
+            let left = plain_value(context, left, steps)?;
+            let right = plain_value(context, right, steps)?;
+            Ok(compared(*how, &left, &right))
+        }
+        ExprNode::Not(of) => Ok(truth_of(context, of, answers, steps)?.denied()),
+        ExprNode::And(parts) => all_of(context, parts, answers, steps),
+        ExprNode::Or(parts) => any_of(context, parts, answers, steps),
+        ExprNode::Exists(number) => Ok(answered(answers, *number)),
+        ExprNode::Number(_)
+        | ExprNode::Text(_)
+        | ExprNode::Truth(_)
+        | ExprNode::Var(_)
+        | ExprNode::Property(_, _)
+        | ExprNode::NodeAt(_, _)
+        | ExprNode::EdgeAt(_, _)
+        | ExprNode::Length(_)
+        | ExprNode::Aggregate(_, _)
+        | ExprNode::Negate(_)
+        | ExprNode::Sum(_, _)
+        | ExprNode::Product(_, _) => Ok(Truth3::Unknown),
+    }
+}
+
+// All of the parts.
+#[cycle(truth)]
+fn all_of<L: Ledger>(
+    context: &Context<'_>,
+    parts: &ExprList,
+    answers: &[bool],
+    steps: &mut Steps<L>,
+) -> Result<Truth3, Memory>
+    ensures { IfOk result (λ t. t ≡ all_of context.now answers.now (row (map numbered_expr parts.now.items))) }
+{
+    let mut all = Truth3::Yes;
+    for part in parts {
+        all = all.both(truth_of(context, part, answers, steps)?);
+    }
+    Ok(all)
+}
+
+// One of the parts.
+#[cycle(truth)]
+fn any_of<L: Ledger>(
+    context: &Context<'_>,
+    parts: &ExprList,
+    answers: &[bool],
+    steps: &mut Steps<L>,
+) -> Result<Truth3, Memory>
+    ensures { IfOk result (λ t. t ≡ any_of context.now answers.now (row (map numbered_expr parts.now.items))) }
+{
+    let mut any = Truth3::No;
+    for part in parts {
+        any = any.either(truth_of(context, part, answers, steps)?);
+    }
+    Ok(any)
+}
+
+// The value of an operand, in which no aggregate has a value.
+fn plain_value<L: Ledger>(
+    context: &Context<'_>,
+    expr: &Expr,
+    steps: &mut Steps<L>,
+) -> Result<Val, Memory>
+    ensures { IfOk result (λ v. v ≡ value_of context.now [] (numbered_expr expr.now)) }
+{
+    value_of(context, expr, &mut Folded::of(&[]), steps)
+}
+
+// The answer to an EXISTS query.
+fn answered(answers: &[bool], number: u32) -> Truth3
+    ensures { result ≡ answered (slice_get answers.now number) }
+{
+    match answers.get(number as usize) {
+        Some(answer) => Truth3::told(*answer),
+        None => Truth3::Unknown,
+    }
+}
