@@ -3,16 +3,17 @@ use Rattle.std.proofs.Common.{◌≡◌, refl, ap, sym, ◌∙◌, ℕ, zero, su
 use Rattle.std.specs.Option.{option_map}
 use Rattle.std.proofs.Math.Dec.{leb, leb-suc-suc}
 use Rattle.std.proofs.lemmas.Bool.{le-leb, lt-leb}
-use Rattle.std.proofs.lemmas.List.{append_assoc, append-nil, map-append}
+use Rattle.std.proofs.lemmas.List.{append-nil, map-append}
 use Rattle.gc_lex.specs.declared.token.Token.{Token}
 use Rattle.gc_lex.specs.declared.token.Mark.TheVariants as mark
 use Rattle.gc_grammar.specs.Words.{Point}
 use Rattle.gc_grammar.specs.Readers.{Reader, Reading, Got, Stuck, then_read, in_front, read_mark, read_both, read_made}
-use Rattle.gc_parse.specs.LaterReaders.{ended, read_next, read_unless_ended}
-use Rattle.gc_parse.specs.QueryReaders.{read_later, read_unless_end}
-use Rattle.gc_parse.specs.declared.refusal.Refusal.{Refusal}
-use Rattle.gc_parse.specs.declared.refusal.Refusal.TheVariants as refusal
-use Rattle.gc_parse.specs.Results.{Gives}
+use Rattle.gc_readers.specs.LaterReaders.{ended, read_next, read_unless_ended}
+use Rattle.gc_readers.specs.QueryReaders.{read_later, read_unless_end}
+use Rattle.gc_source.specs.declared.refusal.Refusal.{Refusal}
+use Rattle.gc_source.specs.declared.refusal.Refusal.TheVariants as refusal
+use Rattle.gc_source.specs.Results.{Gives}
+use Rattle.gc_source.proofs.Loops.{front_of_front}
 use native.Mathlib.Omega.{arith}
 
 -- a place is at the end where it is no less than the number of tokens
@@ -83,10 +84,6 @@ later_in statement zero start ts h = absurd (omega (arith, h))
 later_in statement (suc turns) start ts h =
     later_is statement turns start ts
     ∙ ap (λ n. then_read (read_next statement start ts) (after_next statement n)) {x = turns} {y = suc turns - 1} (omega arith)
-
-front_of_front : {A : Type 0} (xs ys : List A) (r : Reading (List A)) → in_front xs (in_front ys r) ≡ in_front (xs ++ ys) r
-front_of_front xs ys (Got others end rest) = ap (λ all. Got all end rest) (sym (append_assoc xs ys others))
-front_of_front xs ys (Stuck k) = refl
 
 -- where no statement comes next, the statements are those of the whole reading
 pub later_stops : {T A : Type 0} (view : T → A) (statement : Reader A) (room counter : ℕ) (items : List T) (found : Option T) (start end : Point) (ts rest : List Token) (whole : Reading (List A))

@@ -1,15 +1,3 @@
-pub mod ConstructReaders
-pub mod ConstructViews
 pub mod Depths
-pub mod ExpressionReaders
-pub mod LaterReaders
-pub mod LinkViews
 pub mod Parses
-pub mod PatternReaders
-pub mod PatternViews
-pub mod QueryReaders
-pub mod RegexReaders
-pub mod RegexViews
-pub mod Results
-pub mod Sources
 pub mod TermParts

@@ -1,21 +1,15 @@
 -- What a parse of a token list is.
-use Rattle.std.specs.Prelude.{◌≡◌, ◌+◌, ◌≤◌, List, length, take, Option, Result, Ok, Err, Some, None, ℕ, ◌-◌}
+use Rattle.std.specs.Prelude.{◌≡◌, ◌+◌, List, length, Option, Result, Ok, Err, Some, None, ℕ}
 use Rattle.gc_lex.specs.declared.token.Token.{Token}
 use Rattle.gc_parse.specs.declared.refusal.ParseRefusal.{ParseRefusal}
 use Rattle.gc_parse.specs.declared.refusal.ParseRefusal.TheVariants.{TooDeep, Syntax, Memory}
-use Rattle.gc_parse.specs.declared.refusal.Refusal.{Refusal}
-use Rattle.gc_parse.specs.declared.refusal.Refusal.TheVariants as refusal
+use Rattle.gc_source.specs.declared.refusal.Refusal.{Refusal}
+use Rattle.gc_source.specs.declared.refusal.Refusal.TheVariants as refusal
 use Rattle.gc_ast.specs.Trees.{Tree, AStatement}
 use Rattle.gc_grammar.specs.Readers.{Reading, Got, Stuck}
-use Rattle.gc_grammar.specs.Queries.{start}
-use Rattle.gc_parse.specs.QueryReaders.{nested, read_file}
+use Rattle.gc_readers.specs.QueryReaders.{file_reading}
+use Rattle.gc_readers.specs.Refusals.{IsRefusedAt}
 use Rattle.gc_parse.specs.Depths.{IsDepthFault, depth_fault_in}
-
--- a number is at most that of the tokens, and no list that agrees up to and including that token
--- spells a value
-abbrev pub IsRefusedAt : {A : Type 0} → (List Token → A → Type 0) → List Token → ℕ → Type 0
-IsRefusedAt {A = A} Spells ts place =
-    (place ≤ length ts) × ((us : List Token) (a : A) → take (place + 1) us ≡ take (place + 1) ts → Spells us a → ⊥)
 
 -- a result is the parse of a list, by what lists spell and what a result's tree is: brackets that are
 -- too deep are refused before all else; then a tree is given where the list spells one, and it is the
@@ -34,10 +28,6 @@ IsWhole {A = A} Spells view ts (Ok t) = Spells ts (view t) × ((a : A) → Spell
 IsWhole Spells view ts (Err (refusal.Syntax k)) =
     IsRefusedAt Spells ts k
 IsWhole Spells view ts (Err refusal.Memory) = Unit {0}
-
--- what the reader of whole files gives for a list of fewer tokens than the room
-abbrev pub file_reading : ℕ → List Token → Reading (List (Tree AStatement))
-file_reading room ts = read_file room (nested (room - 1)) start ts
 
 -- what a reading of a whole file means: its statements, or the token that it cannot go past
 abbrev pub read_whole : Reading (List (Tree AStatement)) → Result (List (Tree AStatement)) ParseRefusal
@@ -65,3 +55,8 @@ abbrev pub IsDueWhole : {T A : Type 0} → (T → A) → Result A ParseRefusal �
 IsDueWhole view due (Ok t) = due ≡ Ok (view t)
 IsDueWhole view due (Err (refusal.Syntax k)) = due ≡ Err (Syntax k)
 IsDueWhole view due (Err refusal.Memory) = Unit {0}
+
+-- the refusal of a production as that of a whole file
+abbrev pub as_parse_refusal : Refusal → ParseRefusal
+as_parse_refusal (refusal.Syntax k) = Syntax k
+as_parse_refusal refusal.Memory = Memory

@@ -1,26 +1,26 @@
-ghost use Rattle.std.specs.Prelude.{◌≡◌, ◌-◌, ◌<◌, ◌∷◌, [], drop, map, codes, true, IfOk};
+ghost use Rattle.std.specs.Prelude.{◌≡◌, ◌-◌, ◌<◌, ◌∷◌, [], drop, map, codes, IfOk};
 ghost use Rattle.gc_ast.specs.PatternViews.{named};
 ghost use Rattle.gc_ast.specs.QueryViews.{head_tree, next_term_tree, query_tree, term_tree};
 ghost use Rattle.gc_expr.specs.Views.{Names};
 ghost use Rattle.gc_grammar.specs.Kinds.{begins, word_kind};
 ghost use Rattle.gc_grammar.specs.Queries.{as_query, as_term};
 ghost use Rattle.gc_grammar.specs.Readers.{read_many};
-ghost use Rattle.gc_parse.specs.ExpressionReaders.{read_in_parentheses};
-ghost use Rattle.gc_parse.specs.QueryReaders.{nested, read_head, read_named_query, read_next_term, read_query, read_set_op, read_term, set_op_kinds};
-ghost use Rattle.gc_parse.specs.Results.{Gives, bare};
+ghost use Rattle.gc_readers.specs.ExpressionReaders.{read_in_parentheses};
+ghost use Rattle.gc_readers.specs.QueryReaders.{nested, read_head, read_named_query, read_next_term, read_query, read_set_op, read_term, set_op_kinds};
+ghost use Rattle.gc_source.specs.Results.{Gives};
+ghost use Rattle.gc_readers.specs.Points.{bare};
 ghost use Rattle.gc_parse.specs.TermParts.{term_of_parts};
 
 use crate::blocks::basic;
 use crate::path_heads::path_head;
-use crate::refusal::Refusal;
-use crate::source::Source;
 use gc_ast::{Head, HeadList, NextTerm, NextTermList, Query, SetOp, Term};
 use gc_base::{Memory, NameAt};
 use gc_lex::Mark;
+use gc_source::{Refusal, Source};
 use std::alloc::Global;
 
-#[tactic(auto, using(crate::proofs::NestedRooms::query_with_room, crate::proofs::NestedRooms::query_without_room))]
-#[cycle(parser)]
+#[tactic(auto, using(gc_readers::proofs::NestedRooms::query_with_room, gc_readers::proofs::NestedRooms::query_without_room))]
+#[cycle(query)]
 // A query between brackets, over at most so many tokens.
 pub(crate) fn inner_query(source: &Source, room: u64, at: u32) -> Result<(Query, u32), Refusal>
     ensures { Gives (query_tree source.now.names) source.now.tokens result ((nested room).query (bare at) (drop at source.now.tokens)) }
@@ -31,8 +31,8 @@ pub(crate) fn inner_query(source: &Source, room: u64, at: u32) -> Result<(Query,
     query(source, room, at)
 }
 
-#[tactic(auto, unfolding(crate::specs::QueryReaders::read_query))]
-#[cycle(parser)]
+#[tactic(auto, unfolding(gc_readers::specs::QueryReaders::read_query))]
+#[cycle(query)]
 // query = { head } term { (`UNION` | `INTERSECT` | `MINUS`) term }
 pub(crate) fn query(source: &Source, room: u64, at: u32) -> Result<(Query, u32), Refusal>
     requires { 0 < room }
@@ -60,7 +60,7 @@ fn unwrapped(heads: HeadList, first: Term, rest: NextTermList) -> Query
 }
 
 // { head }
-#[cycle(parser)]
+#[cycle(query)]
 fn heads(source: &Source, room: u64, from: u32) -> Result<(HeadList, u32), Refusal>
     requires { 0 < room }
     ensures { Gives (λ heads. map (head_tree source.now.names) heads.items) source.now.tokens result (read_many (word_kind (codes "PATH") ∷ word_kind (codes "GRAPH") ∷ []) (read_head room (nested (room - 1))) room (bare from) (drop from source.now.tokens)) }
@@ -85,8 +85,8 @@ fn is_head_at(source: &Source, at: u32) -> bool
     source.is_word_at(at, "PATH") || source.is_word_at(at, "GRAPH")
 }
 
-#[tactic(auto, unfolding(crate::specs::QueryReaders::read_head))]
-#[cycle(parser)]
+#[tactic(auto, unfolding(gc_readers::specs::QueryReaders::read_head))]
+#[cycle(query)]
 // head = `PATH` name `=` vchain { `,` vchain } [ `WHERE` expr ] [ `COST` expr ]
 //     | `GRAPH` name `AS` `(` query `)`
 fn head(source: &Source, room: u64, at: u32) -> Result<(Head, u32), Refusal>
@@ -101,8 +101,8 @@ fn head(source: &Source, room: u64, at: u32) -> Result<(Head, u32), Refusal>
     Ok((Head::graph(name, query), at))
 }
 
-#[tactic(auto, unfolding(crate::specs::QueryReaders::read_named_query))]
-#[cycle(parser)]
+#[tactic(auto, unfolding(gc_readers::specs::QueryReaders::read_named_query))]
+#[cycle(query)]
 // name `AS` `(` query `)`
 pub(crate) fn named_query(
     source: &Source,
@@ -118,8 +118,8 @@ pub(crate) fn named_query(
     Ok(((name, query), at))
 }
 
-#[tactic(auto, unfolding(crate::specs::ExpressionReaders::read_in_parentheses))]
-#[cycle(parser)]
+#[tactic(auto, unfolding(gc_readers::specs::ExpressionReaders::read_in_parentheses))]
+#[cycle(query)]
 // `(` query `)`
 fn bracketed_query(source: &Source, room: u64, at: u32) -> Result<(Query, u32), Refusal>
     requires { 0 < room }
@@ -131,8 +131,8 @@ fn bracketed_query(source: &Source, room: u64, at: u32) -> Result<(Query, u32), 
     Ok((query, at))
 }
 
-#[tactic(auto, unfolding(crate::specs::QueryReaders::read_term))]
-#[cycle(parser)]
+#[tactic(auto, unfolding(gc_readers::specs::QueryReaders::read_term))]
+#[cycle(query)]
 // term = basic | name | `(` query `)`
 fn term(source: &Source, room: u64, at: u32) -> Result<(Term, u32), Refusal>
     requires { 0 < room }
@@ -176,7 +176,7 @@ fn wrapped_parts(
 }
 
 // { (`UNION` | `INTERSECT` | `MINUS`) term }
-#[cycle(parser)]
+#[cycle(query)]
 fn next_terms(source: &Source, room: u64, from: u32) -> Result<(NextTermList, u32), Refusal>
     requires { 0 < room }
     ensures { Gives (λ terms. map (next_term_tree source.now.names) terms.items) source.now.tokens result (read_many set_op_kinds (read_next_term room (nested (room - 1))) room (bare from) (drop from source.now.tokens)) }
@@ -194,8 +194,8 @@ fn next_terms(source: &Source, room: u64, from: u32) -> Result<(NextTermList, u3
     Ok((terms, at))
 }
 
-#[tactic(auto, unfolding(crate::specs::QueryReaders::read_next_term))]
-#[cycle(parser)]
+#[tactic(auto, unfolding(gc_readers::specs::QueryReaders::read_next_term))]
+#[cycle(query)]
 // (`UNION` | `INTERSECT` | `MINUS`) term
 fn next_term(source: &Source, room: u64, at: u32) -> Result<(NextTerm, u32), Refusal>
     requires { 0 < room }
@@ -206,7 +206,7 @@ fn next_term(source: &Source, room: u64, at: u32) -> Result<(NextTerm, u32), Ref
     Ok((NextTerm::of(op, term), at))
 }
 
-#[tactic(auto, unfolding(crate::specs::QueryReaders::read_set_op))]
+#[tactic(auto, unfolding(gc_readers::specs::QueryReaders::read_set_op))]
 // `UNION` | `INTERSECT` | `MINUS`
 fn set_op(source: &Source, at: u32) -> Result<(SetOp, u32), Refusal>
     ensures { Gives (λ op. op) source.now.tokens result (read_set_op (bare at) (drop at source.now.tokens)) }

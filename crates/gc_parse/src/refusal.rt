@@ -1,5 +1,4 @@
-use gc_base::Memory;
-use std::alloc::{AllocError, AllocFailed};
+use gc_source::Refusal;
 use thiserror::Error;
 
 /// Why a token list has no tree.
@@ -16,53 +15,9 @@ pub enum ParseRefusal {
     Memory,
 }
 
-/// Why a reader of a production goes no further.
-#[derive(Clone, Copy, Debug, PartialEq, Eq, Error)]
-pub(crate) enum Refusal {
-    /// The token of this number cannot stand where it does.
-    #[error("syntax error at token {0}")]
-    Syntax(u32),
-    /// Memory is short.
-    #[error("out of memory")]
-    Memory,
-}
-
-impl From<Memory> for Refusal {
-    ghost use Rattle.std.specs.Prelude.{◌≡◌};
-    ghost use Rattle.gc_parse.specs.declared.refusal.Refusal.TheVariants as refusal;
-
-    ghost from_gives = { λ _ made. made ≡ refusal.Memory };
-
-    fn from(_memory: Memory) -> Refusal {
-        Refusal::Memory
-    }
-}
-
-impl<T: Drop> From<AllocFailed<T>> for Refusal {
-    ghost use Rattle.std.specs.Prelude.{◌≡◌};
-    ghost use Rattle.gc_parse.specs.declared.refusal.Refusal.TheVariants as refusal;
-
-    ghost from_gives = { λ _ made. made ≡ refusal.Memory };
-
-    fn from(_failed: AllocFailed<T>) -> Refusal {
-        Refusal::Memory
-    }
-}
-
-impl From<AllocError> for Refusal {
-    ghost use Rattle.std.specs.Prelude.{◌≡◌};
-    ghost use Rattle.gc_parse.specs.declared.refusal.Refusal.TheVariants as refusal;
-
-    ghost from_gives = { λ _ made. made ≡ refusal.Memory };
-
-    fn from(_error: AllocError) -> Refusal {
-        Refusal::Memory
-    }
-}
-
 impl From<Refusal> for ParseRefusal {
     ghost use Rattle.std.specs.Prelude.{◌≡◌};
-    ghost use Rattle.gc_parse.specs.Results.{as_parse_refusal};
+    ghost use Rattle.gc_parse.specs.Parses.{as_parse_refusal};
 
     ghost from_gives = { λ refused made. made ≡ as_parse_refusal refused };
 

@@ -4,7 +4,7 @@ ghost use Rattle.gc_lex.specs.Lexis.{TokenList, lexed};
 ghost use Rattle.gc_ast.specs.Trees.{Tree, AStatement};
 ghost use Rattle.gc_grammar.specs.Queries.{SpellsFile};
 ghost use Rattle.gc_parse.specs.Depths.{IsDepthFault};
-ghost use Rattle.gc_parse.specs.Parses.{IsRefusedAt};
+ghost use Rattle.gc_readers.specs.Refusals.{IsRefusedAt};
 ghost use Rattle.gcore.specs.Outcomes.{built, label_of};
 ghost use Rattle.gcore.specs.ThinTrees.{thin_label};
 ghost use Rattle.gcore.specs.declared.stop.Stop.TheVariants.{Text};

@@ -1,0 +1,2 @@
+pub mod ConstructViews
+pub mod Formulas

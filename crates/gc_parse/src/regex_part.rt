@@ -1,9 +1,0 @@
-use gc_base::NameAt;
-use gc_regx::Regex;
-
-/// A regular path expression, and the names after its `~` in text order.
-#[derive(Debug, Drop)]
-pub(crate) struct Part {
-    pub regex: Regex,
-    pub views: Vec<NameAt>,
-}

@@ -1,0 +1,2 @@
+pub mod PatternViews
+pub mod RegexViews

@@ -1,0 +1,14 @@
+pub mod ConstructRight
+pub mod ExpressionRight
+pub mod FileRight
+pub mod Fronts
+pub mod NestedRooms
+pub mod Outlines
+pub mod PatternRight
+pub mod QueryRight
+pub mod RegexRight
+pub mod Statements
+pub mod TokenKinds
+pub mod Whole
+pub mod WholeLists
+pub mod WholeRegex

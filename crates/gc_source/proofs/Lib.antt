@@ -1,0 +1,4 @@
+pub mod LinkLoops
+pub mod Loops
+pub mod NameNumbers
+pub mod Prefixes
