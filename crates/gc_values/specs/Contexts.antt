@@ -19,15 +19,15 @@ pub record Context : Type 0 where
 
 -- the graph of a variable, if it has one: of its two numbers the one that is asked for
 abbrev pub graph_by : (ReadUse → ℕ) → Context → Sym → Option PropertyGraph
-graph_by number ctx x = option_and_then (slice_get ctx.graphs) (option_map number (find (λ use_. use_.var.0 == x.0) ctx.reads))
+graph_by number ctx x = option_and_then (slice_get ctx.graphs) (option_map number (find (λ read. read.var.0 == x.0) ctx.reads))
 
 -- the graph in which its own labels, properties and walk are read
 abbrev pub own_graph : Context → Sym → Option PropertyGraph
-own_graph = graph_by (λ use_. use_.own)
+own_graph = graph_by (λ read. read.own)
 
 -- the graph in which the elements on its walk are read
 abbrev pub walk_graph : Context → Sym → Option PropertyGraph
-walk_graph = graph_by (λ use_. use_.walk)
+walk_graph = graph_by (λ read. read.walk)
 
 -- what was made of a construct variable, if it is one
 abbrev pub made_of : Context → Sym → Option Made

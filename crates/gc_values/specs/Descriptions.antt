@@ -28,8 +28,7 @@ pub record Description : Type 0 where
   pub labels : List (List ℕ)
   pub properties : List Property
 
--- what stands before a dot or a colon: undefined for a reason, or described; nothing is described where it is unbound or no
--- element of the graph
+-- what stands before a dot or a colon: undefined for a reason, or described, where it is an element that its graph has
 abbrev pub Seen : Type 0
 Seen = Result (Option Description) Why
 
