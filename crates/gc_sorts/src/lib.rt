@@ -1,0 +1,9 @@
+//! The sort rules of query files: whether names, graphs, views and expressions stand where they may.
+//! Others rely on `check`, which gives the first breach of a rule and its place, or a checked file.
+//! This crate knows of no token list, no text and no graph, only of the names that graphs have.
+#![tactic(auto)]
+
+mod breach;
+mod index;
+
+pub use breach::SortRule;
