@@ -1,6 +1,6 @@
 -- Where names stand first in lists that grow.
 use Rattle.std.proofs.Common.{◌≡◌, ◌<◌, ◌≤◌, ◌+◌, ℕ, Bool, true, false, not, List, [], ◌∷◌, ◌++◌, Option, Some, None, length, map, refl, sym, ap, ◌∙◌, arith, inl, inr, get_or, slice_set, if◌then◌else◌, is_some}
-use Rattle.std.specs.List.{position, prefix_len, IsDistinct, list_all}
+use Rattle.std.specs.List.{position, prefix_len, IsDistinct, list_all, list_any}
 use Rattle.std.specs.Option.{option_or}
 use Rattle.std.proofs.lemmas.Bool.Decides.{nat_tests, eqb_tells}
 use Rattle.std.proofs.lemmas.List.{get_or-set_same, get_or-set_other, length-map}
@@ -176,3 +176,8 @@ places_stay count first whole syms a at place room places is_whole is_length is_
     first_stays count first syms a
     (λ j below. places j below ∙ ap (position (has_slot count j)) is_whole)
     (λ last. other (read_at first at x None (omega (arith, is_slot, room)) read ∙ ap (λ j. get_or first j None) is_slot ∙ last ∙ ap Some (sym is_length)))
+
+-- a test has a first place exactly where an item passes it
+pub is_some-position : {X : Type 0} (p : X → Bool) (xs : List X) → is_some (position p xs) ≡ list_any p xs
+is_some-position p [] = refl
+is_some-position p (x ∷ xs) = grind (arith, nat_tests, common_steps, is_some-position p xs)

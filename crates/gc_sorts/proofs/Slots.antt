@@ -17,7 +17,7 @@ true_unless true h = refl
 true_unless false h = absurd (h refl)
 
 -- a word is not empty
-no_empty_word : (w : List ℕ) → is_word w ≡ true → w ≡ [] → ⊥
+pub no_empty_word : (w : List ℕ) → is_word w ≡ true → w ≡ [] → ⊥
 no_empty_word [] h e = cc
 no_empty_word (c ∷ cs) h e = cc
 
@@ -27,10 +27,10 @@ word_at names i words inside =
     true_unless (is_word (get_or names i [])) (λ h. let e = list_all_at is_word names i [] inside h in cc)
 
 -- a number is in the table, with its name, or behind it, without one
-Stands : Names → Sym → Type 0
+unfoldable pub Stands : Names → Sym → Type 0
 Stands names a = ((a.0 < length names) × (name_of names a ≡ get_or names a.0 [])) ⊎ ((length names ≤ a.0) × (name_of names a ≡ []))
 
-stands : (names : Names) (a : Sym) → Stands names a
+pub stands : (names : Names) (a : Sym) → Stands names a
 unfolding Stands
 stands names a =
     elim ((slice_get_cases names a.0).1) as (λ w. ((a.0 < length names) × (name_of names a ≡ get_or names a.0 [])) ⊎ ((length names ≤ a.0) × (name_of names a ≡ []))) [

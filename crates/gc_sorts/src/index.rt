@@ -3,6 +3,7 @@ ghost use Rattle.std.specs.List.{list_all};
 ghost use Rattle.gc_base.specs.Words.{is_word};
 ghost use Rattle.gc_expr.specs.Views.{name_of};
 ghost use Rattle.gc_ast.specs.Names.{same_name};
+ghost use Rattle.gc_sorts.specs.Graphs.{has_name};
 ghost use Rattle.gc_sorts.specs.Orders.{first_place, slot};
 
 use gc_ast::NameTable;
@@ -51,6 +52,14 @@ impl<'a> Index<'a> {
         })
     }
 
+    /// The slot of a number.
+    pub fn slot(&self, sym: Sym) -> usize
+        ensures slot { result ≡ slot (length self.now.names) sym }
+        ensures within { result ≤ length self.now.names }
+    {
+        slot(self.names, sym)
+    }
+
     /// How many names came.
     pub fn len(&self) -> usize
         ensures { result ≡ length self.now.order }
@@ -63,6 +72,13 @@ impl<'a> Index<'a> {
         ensures { result ≡ first_place self.now.order (name_of self.now.names sym) }
     {
         self.first[slot(self.names, sym)]
+    }
+
+    /// Whether a name came.
+    pub fn has(&self, sym: Sym) -> bool
+        ensures { result ≡ has_name self.now.order (name_of self.now.names sym) }
+    {
+        self.first(sym).is_some()
     }
 
     /// Adds a name at the end.
@@ -122,8 +138,8 @@ fn slot(names: &NameTable, sym: Sym) -> usize
     (sym.0 as usize).min(names.len() as usize)
 }
 
-// Reads each name of a table, which is a word by its type.
-fn read_words(names: &NameTable)
+/// Reads each name of a table, which is a word by its type.
+pub(crate) fn read_words(names: &NameTable)
     ensures { list_all is_word names.now ≡ true }
 {
     for name in names.as_slice() {

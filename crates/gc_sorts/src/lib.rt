@@ -4,6 +4,12 @@
 #![tactic(auto)]
 
 mod breach;
+mod graphs;
 mod index;
+mod patterns;
+mod sizes;
+mod sort;
 
 pub use breach::SortRule;
+pub use sizes::state_count;
+pub use sort::Sort;

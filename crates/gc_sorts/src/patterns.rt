@@ -1,0 +1,81 @@
+ghost use Rattle.std.specs.Prelude.{◌≡◌, ◌∷◌, [], map};
+ghost use Rattle.gc_expr.specs.Views.{name_of};
+ghost use Rattle.gc_ast.specs.PatternViews.{all_named_by, pattern_tree, body_by};
+ghost use Rattle.gc_ast.specs.Trees.{row};
+ghost use Rattle.gc_sorts.specs.Breaches.{first_among};
+ghost use Rattle.gc_sorts.specs.Graphs.{unknown_views};
+ghost use Rattle.gc_sorts.specs.Patterns.{path_breaches, pattern_breaches, each};
+
+use crate::breach::{Breach, SortRule, noted_if};
+use crate::index::Index;
+use crate::sizes::{out_of_range, too_many_states};
+use gc_ast::{Chain, NameAtList, PathBody, Pattern};
+use gc_base::NameAt;
+
+/// The first breach of those so far and views that are not in scope.
+fn unknown_views(found: Option<Breach>, views: &Index, named: &NameAtList) -> Option<Breach>
+    ensures { result ≡ first_among found (unknown_views views.now.order (all_named_by (name_of views.now.names) named.now)) }
+{
+    let mut found = found;
+    for view in named.as_slice() {
+        found = unknown_view(found, views, *view);
+    }
+    found
+}
+
+fn unknown_view(found: Option<Breach>, views: &Index, view: NameAt) -> Option<Breach>
+    ensures { result ≡ first_among found (unknown_views views.now.order (all_named_by (name_of views.now.names) (view ∷ []))) }
+{
+    noted_if(found, !views.has(view.sym), SortRule::UnknownView, view.token)
+}
+
+/// The first breach of those so far and of a path.
+fn path(found: Option<Breach>, views: &Index, regex_at: u32, body: &PathBody) -> Option<Breach>
+    ensures { result ≡ first_among found (path_breaches views.now.order regex_at (body_by (name_of views.now.names) body.now)) }
+{
+    match body {
+        PathBody::Reach { regex, views: named } => {
+            let found = unknown_views(found, views, named);
+            too_many_states(found, regex, regex_at)
+        }
+        PathBody::Found {
+            k,
+            regex,
+            views: named,
+            ..
+        } => {
+            let found = out_of_range(found, k);
+            let found = unknown_views(found, views, named);
+            too_many_states(found, regex, regex_at)
+        }
+        PathBody::All {
+            regex,
+            views: named,
+            ..
+        } => {
+            let found = unknown_views(found, views, named);
+            too_many_states(found, regex, regex_at)
+        }
+        PathBody::Stored { .. } => found,
+    }
+}
+
+fn pattern(found: Option<Breach>, views: &Index, pattern: &Pattern) -> Option<Breach>
+    ensures { result ≡ first_among found (pattern_breaches views.now.order (pattern_tree views.now.names pattern.now)) }
+{
+    match pattern {
+        Pattern::Path { regex_at, body, .. } => path(found, views, *regex_at, body),
+        _ => found,
+    }
+}
+
+/// The first breach of those so far and of the parts of a chain.
+pub(crate) fn chain(found: Option<Breach>, views: &Index, chain: &Chain) -> Option<Breach>
+    ensures { result ≡ first_among found (each (pattern_breaches views.now.order) (row (map (pattern_tree views.now.names) chain.now.parts))) }
+{
+    let mut found = found;
+    for part in chain.parts.as_slice() {
+        found = pattern(found, views, part);
+    }
+    found
+}
