@@ -28,7 +28,7 @@ prefixes_alike : {X Y : Type 0} (p : X → Bool) (q : Y → Bool) (f : X → Y) 
 prefixes_alike p q f alike [] = refl
 prefixes_alike p q f alike (x ∷ xs) = simp (alike x, prefixes_alike p q f alike xs)
 
-positions_alike : {X Y : Type 0} (p : X → Bool) (q : Y → Bool) (f : X → Y) → ((x : X) → q (f x) ≡ p x)
+pub positions_alike : {X Y : Type 0} (p : X → Bool) (q : Y → Bool) (f : X → Y) → ((x : X) → q (f x) ≡ p x)
     → (xs : List X) → position q (map f xs) ≡ position p xs
 positions_alike p q f alike xs =
     let e = prefixes_alike (λ x. not (p x)) (λ y. not (q y)) f (λ x. ap not (alike x)) xs in rw (e, length-map)

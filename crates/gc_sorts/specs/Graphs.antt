@@ -1,11 +1,22 @@
 -- Names of graphs and of views in scope, and the rules on them.
 use Rattle.std.specs.Prelude.{ℕ, List, [], ◌∷◌, ◌++◌, Bool, not, Option, Some, None}
 use Rattle.std.specs.List.{list_any}
+use Rattle.gc_expr.specs.Views.{Names}
 use Rattle.gc_ast.specs.Names.{same_name}
 use Rattle.gc_ast.specs.Trees as tree
 use Rattle.gc_ast.specs.Trees.{Tree, TreeOf, Named, RowOf, ALocated}
 use Rattle.gc_sorts.specs.declared.breach.SortRule.TheVariants.{UnknownGraph, UnknownView, NameTaken}
 use Rattle.gc_sorts.specs.Breaches.{Breaches, none, both, broken_if}
+
+-- the graphs that are known: those of the session, and those that the query file has declared
+pub record Known : Type 0 where
+  pub names : Names
+  pub loaded : List (List ℕ)
+  pub declared : List (List ℕ)
+
+-- all of them, in the order of their numbers
+abbrev pub known : Known → List (List ℕ)
+known graphs = graphs.loaded ++ graphs.declared
 
 -- whether a name is on a list
 abbrev pub has_name : List (List ℕ) → List ℕ → Bool

@@ -1,5 +1,5 @@
 -- Where variables stand in the patterns of a MATCH and its OPTIONAL blocks.
-use Rattle.std.specs.Prelude.{ℕ, ◌+◌, List, [], ◌∷◌, ◌++◌, Bool, true, false, not, ◌&&◌, ◌||◌, Option, Some, None, nat_eq, nat_le, nat_lt, length, map, if◌then◌else◌}
+use Rattle.std.specs.Prelude.{ℕ, ◌+◌, List, [], ◌∷◌, ◌++◌, Bool, true, false, not, ◌&&◌, ◌||◌, Option, Some, None, nat_eq, nat_le, nat_lt, length, if◌then◌else◌}
 use Rattle.gc_ast.specs.Trees as tree
 use Rattle.gc_ast.specs.Trees.{Tree, TreeOf, RowOf, AnOptional}
 use Rattle.gc_sorts.specs.declared.breach.SortRule.TheVariants.{SortClash, TwiceBound, SharedOptional}
@@ -8,7 +8,7 @@ use Rattle.gc_sorts.specs.declared.sort.Sort.TheVariants.{Node, Edge, Stored, Fo
 use Rattle.gc_sorts.specs.Breaches.{Breaches, none, both, broken, broken_if}
 use Rattle.gc_sorts.specs.Orders.{first_place}
 use Rattle.gc_sorts.specs.Uses.{optional_uses}
-use Rattle.gc_sorts.specs.Variables.{Use, sort_of, is_single, is_property, first_use, has_cost}
+use Rattle.gc_sorts.specs.Variables.{Use, sort_of, is_single, is_property, use_names, first_use, has_cost}
 
 -- a number for each sort, by which they are compared
 abbrev pub sort_number : Sort → ℕ
@@ -57,7 +57,7 @@ is_between from upto (Some place) = nat_le from place && nat_lt place upto
 -- OPTIONAL block, which begin behind the mandatory patterns
 abbrev pub shared_place : List Use → (mandatory before : ℕ) → Use → Breaches
 shared_place uses mandatory before u =
-    broken_if (is_between mandatory before (first_place (map (λ v. v.name) uses) u.name)) SharedOptional u.token
+    broken_if (is_between mandatory before (first_place (use_names uses) u.name)) SharedOptional u.token
 
 -- the places in OPTIONAL blocks, of which so many places stand before the first block
 abbrev pub shared_breaches : List Use → (mandatory before : ℕ) → Tree (RowOf AnOptional) → Breaches

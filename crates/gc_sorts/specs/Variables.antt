@@ -47,6 +47,10 @@ is_single All = true
 is_single Cost = true
 is_single role = false
 
+-- the names of places
+abbrev pub use_names : List Use → List (List ℕ)
+use_names uses = map (λ u. u.name) uses
+
 -- the first place of a name
 abbrev pub first_use : List Use → List ℕ → Option Use
 first_use uses name = find (λ u. same_name name u.name) uses
@@ -57,7 +61,7 @@ has_use uses name = is_some (first_use uses name)
 
 -- the names of the places behind COST
 abbrev pub cost_names : List Use → List (List ℕ)
-cost_names uses = map (λ u. u.name) (filter (λ u. is_cost u.role) uses)
+cost_names uses = use_names (filter (λ u. is_cost u.role) uses)
 
 -- whether a name has a place behind COST
 abbrev pub has_cost : List Use → List ℕ → Bool

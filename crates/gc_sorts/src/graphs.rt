@@ -1,10 +1,10 @@
-ghost use Rattle.std.specs.Prelude.{◌≡◌, ◌++◌, ◌∷◌, ◌+◌, ◌||◌, [], length, false, slice_index_or, IfOk, OnOk, ℕ};
+ghost use Rattle.std.specs.Prelude.{◌≡◌, ◌++◌, ◌∷◌, ◌+◌, ◌||◌, [], length, take, false, slice_index_or, IfOk, OnOk, ℕ};
 ghost use Rattle.gc_base.specs.declared.place.Sym.{Sym};
 ghost use Rattle.gc_expr.specs.Views.{name_of};
 ghost use Rattle.gc_ast.specs.Names.{same_name};
 ghost use Rattle.gc_ast.specs.PatternViews.{named, named_if};
 ghost use Rattle.gc_sorts.specs.Breaches.{first_among};
-ghost use Rattle.gc_sorts.specs.Graphs.{has_name, unknown_graph, unknown_graph_if, taken};
+ghost use Rattle.gc_sorts.specs.Graphs.{known, has_name, unknown_graph, unknown_graph_if, taken};
 ghost use Rattle.gc_sorts.specs.Orders.{slot};
 
 use crate::breach::{Breach, SortRule, noted_if};
@@ -24,16 +24,16 @@ pub(crate) struct GraphNames<'a> {
 }
 
 impl<'a> Model for GraphNames<'a> {
-    ghost use Rattle.std.specs.Prelude.{◌≡◌, ◌++◌, ◌+◌, false, length, slice_index_or};
+    ghost use Rattle.std.specs.Prelude.{◌≡◌, ◌+◌, false, length, slice_index_or};
     ghost use Rattle.gc_base.specs.declared.place.Sym.{Sym};
     ghost use Rattle.gc_expr.specs.Views.{name_of};
     ghost use Rattle.gc_sorts.specs.Graphs.{has_name};
-    ghost use Rattle.gc_sorts.specs.Orders as orders;
+    ghost use Rattle.gc_sorts.specs.Graphs as graphs;
     ghost use Rattle.gc_sorts.specs.Orders.{slot};
 
-    ghost Value = { orders.Order };
+    ghost Value = { graphs.Known };
 
-    ghost view = { λ g. record { names = g.declared.names; order = g.loaded.now ++ g.declared.order } };
+    ghost view = { λ g. record { names = g.declared.names; loaded = g.loaded.now; declared = g.declared.order } };
 
     ghost invariant = { λ g. (length g.is_loaded.items ≡ length g.declared.names + 1) × ((sym : Sym) → slice_index_or g.is_loaded.items (slot (length g.declared.names) sym) false ≡ has_name g.loaded.now (name_of g.declared.names sym)) };
 }
@@ -41,7 +41,7 @@ impl<'a> Model for GraphNames<'a> {
 impl<'a> GraphNames<'a> {
     /// Whether a graph is known.
     pub fn has(&self, sym: Sym) -> bool
-        ensures { result ≡ has_name self.now.order (name_of self.now.names sym) }
+        ensures { result ≡ has_name (known self.now) (name_of self.now.names sym) }
     {
         self.is_loaded[self.declared.slot(sym)] || self.declared.has(sym)
     }
@@ -53,7 +53,8 @@ impl<'a> GraphNames<'a> {
         loaded: &'a NameList,
     ) -> Result<GraphNames<'a>, Memory>
         ensures names { IfOk result (λ graphs. graphs.names ≡ names.now) }
-        ensures order { IfOk result (λ graphs. graphs.order ≡ loaded.now) }
+        ensures loaded { IfOk result (λ graphs. graphs.loaded ≡ loaded.now) }
+        ensures declared { IfOk result (λ graphs. graphs.declared ≡ []) }
     {
         let is_loaded = loaded_slots(alloc, names, loaded)?;
         let declared = Index::of(alloc, names)?;
@@ -65,17 +66,29 @@ impl<'a> GraphNames<'a> {
     }
 
     /// How many graphs the query file has declared.
-    pub fn declared(&self) -> usize {
+    pub fn declared(&self) -> usize
+        ensures { result ≡ length self.now.declared }
+    {
         self.declared.len()
     }
 
     /// Declares a graph.
     pub fn declare(&mut self, sym: Sym) -> Result<(), Memory>
         ensures names { self.new.names ≡ self.old.names }
-        ensures order { OnOk result (self.new.order ≡ self.old.order ++ name_of self.old.names sym ∷ []) }
+        ensures loaded { self.new.loaded ≡ self.old.loaded }
+        ensures declared { OnOk result (self.new.declared ≡ self.old.declared ++ name_of self.old.names sym ∷ []) }
     {
         self.declared.push(sym)?;
         Ok(())
+    }
+
+    /// Keeps the first n of the declared graphs, or all where there are no more.
+    pub fn cut(&mut self, n: usize)
+        ensures names { self.new.names ≡ self.old.names }
+        ensures loaded { self.new.loaded ≡ self.old.loaded }
+        ensures declared { self.new.declared ≡ take n self.old.declared }
+    {
+        self.declared.cut(n);
     }
 }
 
@@ -123,7 +136,7 @@ pub(crate) fn unknown_graph(
     graphs: &GraphNames,
     graph: NameAt,
 ) -> Option<Breach>
-    ensures { result ≡ first_among found (unknown_graph graphs.now.order (named graphs.now.names graph)) }
+    ensures { result ≡ first_among found (unknown_graph (known graphs.now) (named graphs.now.names graph)) }
 {
     noted_if(found, !graphs.has(graph.sym), SortRule::UnknownGraph, graph.token)
 }
@@ -134,7 +147,7 @@ pub(crate) fn unknown_graph_if(
     graphs: &GraphNames,
     graph: &Option<NameAt>,
 ) -> Option<Breach>
-    ensures { result ≡ first_among found (unknown_graph_if graphs.now.order (named_if graphs.now.names graph.now)) }
+    ensures { result ≡ first_among found (unknown_graph_if (known graphs.now) (named_if graphs.now.names graph.now)) }
 {
     match graph {
         None => found,
@@ -148,7 +161,7 @@ pub(crate) fn taken_graph(
     graphs: &GraphNames,
     name: NameAt,
 ) -> Option<Breach>
-    ensures { result ≡ first_among found (taken graphs.now.order (named graphs.now.names name)) }
+    ensures { result ≡ first_among found (taken (known graphs.now) (named graphs.now.names name)) }
 {
     noted_if(found, graphs.has(name.sym), SortRule::NameTaken, name.token)
 }

@@ -1,4 +1,4 @@
-ghost use Rattle.std.specs.Prelude.{◌≡◌, ◌++◌, ◌∷◌, ◌+◌, [], ◌-◌, ◌≤◌, ◌↔◌, ℕ, length, take, true, IsTrue, Some, None, slice_index_or, IfOk, OnOk};
+ghost use Rattle.std.specs.Prelude.{◌≡◌, ◌++◌, ◌∷◌, ◌+◌, [], ◌-◌, ◌≤◌, ◌↔◌, ℕ, length, take, true, IsTrue, Some, None, slice_index_or, IfOk, OnOk, OnErr};
 ghost use Rattle.std.specs.List.{list_all};
 ghost use Rattle.gc_base.specs.Words.{is_word};
 ghost use Rattle.gc_expr.specs.Views.{name_of};
@@ -85,6 +85,7 @@ impl<'a> Index<'a> {
     pub fn push(&mut self, sym: Sym) -> Result<(), Memory>
         ensures names { self.new.names ≡ self.old.names }
         ensures order { OnOk result (self.new.order ≡ self.old.order ++ name_of self.old.names sym ∷ []) }
+        ensures err { OnErr result (self.new.order ≡ self.old.order) }
     {
         let place = self.syms.len();
         let at = slot(self.names, sym);

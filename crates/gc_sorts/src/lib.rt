@@ -9,6 +9,8 @@ mod index;
 mod patterns;
 mod sizes;
 mod sort;
+mod tokens;
+mod variables;
 
 pub use breach::SortRule;
 pub use sizes::state_count;

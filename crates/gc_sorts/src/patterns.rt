@@ -1,16 +1,19 @@
-ghost use Rattle.std.specs.Prelude.{◌≡◌, ◌∷◌, [], map};
+ghost use Rattle.std.specs.Prelude.{◌≡◌, ◌∷◌, [], map, IfOk};
 ghost use Rattle.gc_expr.specs.Views.{name_of};
-ghost use Rattle.gc_ast.specs.PatternViews.{all_named_by, pattern_tree, body_by};
+ghost use Rattle.gc_ast.specs.PatternViews.{all_named_by, pattern_tree, located_tree, body_by};
 ghost use Rattle.gc_ast.specs.Trees.{row};
 ghost use Rattle.gc_sorts.specs.Breaches.{first_among};
-ghost use Rattle.gc_sorts.specs.Graphs.{unknown_views};
-ghost use Rattle.gc_sorts.specs.Patterns.{path_breaches, pattern_breaches, each};
+ghost use Rattle.gc_sorts.specs.Graphs.{known, unknown_views};
+ghost use Rattle.gc_sorts.specs.Patterns.{path_breaches, pattern_breaches, located_breaches, patterns_breaches, each};
 
 use crate::breach::{Breach, SortRule, noted_if};
+use crate::graphs::{GraphNames, unknown_graph_if};
 use crate::index::Index;
-use crate::sizes::{out_of_range, too_many_states};
-use gc_ast::{Chain, NameAtList, PathBody, Pattern};
-use gc_base::NameAt;
+use crate::sizes::{out_of_range, too_many, too_many_states};
+use crate::tokens::located_tokens;
+use gc_ast::{Chain, Located, LocatedList, NameAtList, PathBody, Pattern};
+use gc_base::{Memory, NameAt};
+use std::alloc::Global;
 
 /// The first breach of those so far and views that are not in scope.
 fn unknown_views(found: Option<Breach>, views: &Index, named: &NameAtList) -> Option<Breach>
@@ -78,4 +81,51 @@ pub(crate) fn chain(found: Option<Breach>, views: &Index, chain: &Chain) -> Opti
         found = pattern(found, views, part);
     }
     found
+}
+
+/// The first breach of those so far and of a chain with its graph.
+fn located(
+    found: Option<Breach>,
+    graphs: &GraphNames,
+    views: &Index,
+    located: &Located,
+) -> Option<Breach>
+    requires { graphs.now.names ≡ views.now.names }
+    ensures { result ≡ first_among found (located_breaches (known graphs.now) views.now.order (located_tree views.now.names located.now)) }
+{
+    let found = chain(found, views, &located.chain);
+    unknown_graph_if(found, graphs, &located.on)
+}
+
+/// The first breach of those so far and of chains with their graphs.
+fn all_located(
+    found: Option<Breach>,
+    graphs: &GraphNames,
+    views: &Index,
+    patterns: &LocatedList,
+) -> Option<Breach>
+    requires { graphs.now.names ≡ views.now.names }
+    ensures { result ≡ first_among found (each (located_breaches (known graphs.now) views.now.order) (row (map (located_tree views.now.names) patterns.now))) }
+{
+    let mut found = found;
+    for pattern in patterns.as_slice() {
+        found = located(found, graphs, views, pattern);
+    }
+    found
+}
+
+/// The first breach of those so far and of the patterns of a block.
+pub(crate) fn block_patterns(
+    alloc: Global,
+    found: Option<Breach>,
+    graphs: &GraphNames,
+    views: &Index,
+    patterns: &LocatedList,
+) -> Result<Option<Breach>, Memory>
+    requires { graphs.now.names ≡ views.now.names }
+    ensures { IfOk result (λ first. first ≡ first_among found (patterns_breaches (known graphs.now) views.now.order (row (map (located_tree views.now.names) patterns.now)))) }
+{
+    let found = all_located(found, graphs, views, patterns);
+    let tokens = located_tokens(alloc, patterns)?;
+    Ok(too_many(found, &tokens))
 }
