@@ -10,6 +10,7 @@ mod patterns;
 mod sizes;
 mod sort;
 mod tokens;
+mod uses;
 mod variables;
 
 pub use breach::SortRule;
