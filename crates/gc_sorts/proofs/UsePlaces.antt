@@ -1,8 +1,9 @@
 -- Places of variables by the places of their names.
-use Rattle.std.proofs.Common.{◌≡◌, ◌<◌, ◌≤◌, ◌+◌, ℕ, Bool, true, false, not, cond, ◌||◌, List, [], ◌∷◌, ◌++◌, Option, Some, None, length, map, take, refl, sym, ap, ◌∙◌, arith, is_some, slice_get, get_or, nat_lt}
-use Rattle.std.specs.List.{find, position, position_or_len, prefix_len, list_any}
+use Rattle.std.proofs.Common.{◌≡◌, ◌<◌, ◌≤◌, ◌+◌, ℕ, Bool, true, false, not, cond, ◌||◌, ◌-◌, List, [], ◌∷◌, ◌++◌, Option, Some, None, length, map, take, drop, refl, sym, ap, ◌∙◌, arith, is_some, slice_get, get_or, nat_lt}
+use Rattle.std.specs.List.{find, filter, position, position_or_len, prefix_len, list_any}
 use Rattle.std.specs.Option.{option_map}
-use Rattle.std.proofs.lemmas.List.{length-map, take-map}
+use Rattle.std.proofs.lemmas.List.{length-map, take-map, length-drop, drop-map, drop_all, take_all, append-nil, map-append, take-append-drop}
+use Rattle.std.proofs.lemmas.List.Elements.{filter-append}
 use Rattle.std.proofs.lemmas.List.Folds.{find_at}
 use Rattle.std.proofs.lemmas.List.Quantifiers.{position-Some}
 use Rattle.std.proofs.lemmas.Option.{slice_get_read, slice_get_past, same_Some, slice_get-map}
@@ -12,7 +13,7 @@ use Rattle.gc_ast.specs.Names.{same_name}
 use Rattle.gc_sorts.specs.declared.sort.UseAt.{UseAt}
 use Rattle.gc_sorts.specs.Graphs.{has_name}
 use Rattle.gc_sorts.specs.Orders.{first_place}
-use Rattle.gc_sorts.specs.Variables.{Use, use_by, use_names, first_use, has_use}
+use Rattle.gc_sorts.specs.Variables.{Use, use_by, use_names, is_cost, first_use, has_use, cost_names}
 use Rattle.gc_sorts.proofs.Places.{positions_alike}
 
 -- a name is in scope where it is among the names of the places
@@ -75,3 +76,25 @@ pub names_cut : (names others : Names) → others ≡ names → (uses rest : Lis
 names_cut names others same uses rest n cut order less is_order is_less =
     is_less ∙ ap (take n) is_order ∙ take-map (λ (u : Use). u.name) n (map (use_by names) uses)
     ∙ sym (ap use_names (places_cut names others same uses rest n cut))
+
+-- the places from a number on
+pub places_from : (names : Names) (slice uses : List UseAt) (n : ℕ) → slice ≡ uses
+    → map (use_by names) (take (length slice - n) (drop n slice)) ≡ drop n (map (use_by names) uses)
+places_from names slice uses n same =
+    let whole : take (length slice - n) (drop n slice) ≡ drop n slice = take_all (length slice - n) (drop n slice) (omega (arith, length-drop n slice)) in
+    ap (map (use_by names)) whole ∙ ap (λ s. map (use_by names) (drop n s)) same ∙ sym (drop-map (use_by names) n uses)
+
+-- the names of the places behind COST in two lists
+pub cost_names-append : (a b : List Use) → cost_names (a ++ b) ≡ cost_names a ++ cost_names b
+cost_names-append a b =
+    ap use_names (filter-append (λ (u : Use). is_cost u.role) a b)
+    ∙ map-append (λ (u : Use). u.name) (filter (λ u. is_cost u.role) a) (filter (λ u. is_cost u.role) b)
+
+-- those of the places up to a number and from it on
+pub costs_from : (names : Names) (uses : List Use) (slice : List UseAt) (from i : ℕ) → map (use_by names) slice ≡ drop from uses → length slice ≤ i
+    → (before after : List (List ℕ)) → before ≡ cost_names (take from uses)
+    → after ++ cost_names (map (use_by names) (drop i slice)) ≡ before ++ cost_names (map (use_by names) slice) → after ≡ cost_names uses
+costs_from names uses slice from i rest done before after is_before so_far =
+    sym (append-nil after) ∙ sym (ap (λ l. after ++ cost_names (map (use_by names) l)) (drop_all i slice done)) ∙ so_far
+    ∙ ap (λ l. l ++ cost_names (map (use_by names) slice)) is_before ∙ ap (λ l. cost_names (take from uses) ++ cost_names l) rest
+    ∙ sym (cost_names-append (take from uses) (drop from uses)) ∙ ap cost_names (take-append-drop from uses)

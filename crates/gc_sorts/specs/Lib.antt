@@ -1,4 +1,5 @@
 pub mod Breaches
+pub mod Expressions
 pub mod Graphs
 pub mod Matches
 pub mod Orders

@@ -53,15 +53,15 @@ abbrev pub is_between : ℕ → ℕ → Option ℕ → Bool
 is_between from upto None = false
 is_between from upto (Some place) = nat_le from place && nat_lt place upto
 
--- a place in an OPTIONAL block whose first number is given: the variable may not come from an earlier
--- OPTIONAL block, which begin behind the mandatory patterns
+-- a place in an OPTIONAL block: behind the mandatory places, of which there are so many, the variable
+-- may not have its first place before this block, before which there are so many
 abbrev pub shared_place : List Use → (mandatory before : ℕ) → Use → Breaches
 shared_place uses mandatory before u =
     broken_if (is_between mandatory before (first_place (use_names uses) u.name)) SharedOptional u.token
 
--- the places in OPTIONAL blocks, of which so many places stand before the first block
-abbrev pub shared_breaches : List Use → (mandatory before : ℕ) → Tree (RowOf AnOptional) → Breaches
-shared_breaches uses mandatory before tree.none = none
-shared_breaches uses mandatory before (tree.more o os) =
-    both (each_use (shared_place uses mandatory before) (optional_uses o))
-    (shared_breaches uses mandatory (before + length (optional_uses o)) os)
+-- the places of OPTIONAL blocks behind those of a list, in which so many are mandatory
+abbrev pub shared_breaches : ℕ → List Use → Tree (RowOf AnOptional) → Breaches
+shared_breaches mandatory uses tree.none = none
+shared_breaches mandatory uses (tree.more o os) =
+    both (each_use (shared_place (uses ++ optional_uses o) mandatory (length uses)) (optional_uses o))
+    (shared_breaches mandatory (uses ++ optional_uses o) os)

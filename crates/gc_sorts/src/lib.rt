@@ -4,8 +4,10 @@
 #![tactic(auto)]
 
 mod breach;
+mod form;
 mod graphs;
 mod index;
+mod matches;
 mod patterns;
 mod sizes;
 mod sort;

@@ -1,14 +1,14 @@
 ghost use Rattle.std.specs.Prelude.{◌≡◌, ◌++◌, map, OnOk, Some};
 ghost use Rattle.gc_expr.specs.Views.{name_of};
 ghost use Rattle.gc_ast.specs.PatternViews.{named_if, pattern_tree, located_tree, element_by, body_by, property_use_by};
-ghost use Rattle.gc_ast.specs.QueryViews.{block_tree, optional_tree};
+ghost use Rattle.gc_ast.specs.QueryViews.{block_tree};
 ghost use Rattle.gc_ast.specs.Trees.{row, rows};
-ghost use Rattle.gc_sorts.specs.Uses.{all_of, use_if, element_uses, body_uses, pattern_uses, property_uses, located_uses, block_uses, optional_uses};
+ghost use Rattle.gc_sorts.specs.Uses.{all_of, use_if, element_uses, body_uses, pattern_uses, property_uses, located_uses, block_uses};
 
 use crate::sort::{Role, UseAt};
 use crate::variables::Variables;
 use gc_ast::{
-    ChainList, Element, LocatedList, MatchBlock, OptionalList, PathBody, Pattern, PatternList,
+    ChainList, Element, LocatedList, MatchBlock, PathBody, Pattern, PatternList,
     PropertyUseList,
 };
 use gc_base::{Memory, NameAt};
@@ -121,19 +121,4 @@ pub(crate) fn add_block(variables: &mut Variables, block: &MatchBlock) -> Result
     ensures uses { OnOk result (variables.new.uses ≡ variables.old.uses ++ block_uses (block_tree variables.old.names block.now)) }
 {
     add_located(variables, &block.patterns)
-}
-
-/// Adds the places of OPTIONAL blocks.
-#[tactic(auto, unfolding(gc_ast::specs::QueryViews::optional_by, gc_ast::specs::QueryViews::block_by))]
-pub(crate) fn add_optionals(
-    variables: &mut Variables,
-    optionals: &OptionalList,
-) -> Result<(), Memory>
-    ensures names { variables.new.names ≡ variables.old.names }
-    ensures uses { OnOk result (variables.new.uses ≡ variables.old.uses ++ all_of optional_uses (row (map (optional_tree variables.old.names) optionals.now.items))) }
-{
-    for optional in optionals {
-        add_block(variables, &optional.block)?;
-    }
-    Ok(())
 }

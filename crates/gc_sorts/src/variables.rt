@@ -1,4 +1,4 @@
-ghost use Rattle.std.specs.Prelude.{◌≡◌, ◌++◌, ◌∷◌, [], length, map, take, IfOk, OnOk};
+ghost use Rattle.std.specs.Prelude.{◌≡◌, ◌++◌, ◌∷◌, [], ◌≤◌, length, map, drop, take, IfOk, OnOk};
 ghost use Rattle.std.specs.Option.{option_map};
 ghost use Rattle.gc_expr.specs.Views.{name_of};
 ghost use Rattle.gc_sorts.specs.Orders.{first_place};
@@ -74,11 +74,12 @@ impl<'a> Variables<'a> {
         self.first.first(name)
     }
 
-    /// The places, in order.
-    pub fn as_slice(&self) -> &[UseAt]
-        ensures { map (use_by self.now.names) result.now ≡ self.now.uses }
+    /// The places from a number on.
+    pub fn from(&self, n: usize) -> &[UseAt]
+        requires { n ≤ length self.now.uses }
+        ensures { map (use_by self.now.names) result.now ≡ drop n self.now.uses }
     {
-        &self.uses
+        &self.uses[n..]
     }
 
     /// Adds a place at the end.
