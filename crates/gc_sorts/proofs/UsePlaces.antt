@@ -1,10 +1,10 @@
 -- Places of variables by the places of their names.
-use Rattle.std.proofs.Common.{◌≡◌, ◌<◌, ◌≤◌, ◌+◌, ℕ, Bool, true, false, not, cond, ◌||◌, ◌-◌, List, [], ◌∷◌, ◌++◌, Option, Some, None, length, map, take, drop, refl, sym, ap, ◌∙◌, arith, is_some, slice_get, get_or, nat_lt}
+use Rattle.std.proofs.Common.{◌≡◌, ◌<◌, ◌≤◌, ◌+◌, ℕ, Bool, true, false, not, cond, if◌then◌else◌, ◌||◌, ◌-◌, List, [], ◌∷◌, ◌++◌, Option, Some, None, length, map, take, drop, refl, sym, ap, ◌∙◌, arith, is_some, slice_get, get_or, nat_lt}
 use Rattle.std.specs.List.{find, filter, position, position_or_len, prefix_len, list_any}
-use Rattle.std.specs.Option.{option_map}
+use Rattle.std.specs.Option.{option_map, option_or}
 use Rattle.std.proofs.lemmas.List.{length-map, take-map, length-drop, drop-map, drop_all, take_all, append-nil, map-append, take-append-drop}
 use Rattle.std.proofs.lemmas.List.Elements.{filter-append}
-use Rattle.std.proofs.lemmas.List.Folds.{find_at}
+use Rattle.std.proofs.lemmas.List.Folds.{find_at, find-append}
 use Rattle.std.proofs.lemmas.List.Quantifiers.{position-Some}
 use Rattle.std.proofs.lemmas.Option.{slice_get_read, slice_get_past, same_Some, slice_get-map}
 use Rattle.std.proofs.lemmas.Bool.Decides.{nat_tests}
@@ -98,3 +98,17 @@ costs_from names uses slice from i rest done before after is_before so_far =
     sym (append-nil after) ∙ sym (ap (λ l. after ++ cost_names (map (use_by names) l)) (drop_all i slice done)) ∙ so_far
     ∙ ap (λ l. l ++ cost_names (map (use_by names) slice)) is_before ∙ ap (λ l. cost_names (take from uses) ++ cost_names l) rest
     ∙ sym (cost_names-append (take from uses) (drop from uses)) ∙ ap cost_names (take-append-drop from uses)
+
+-- the first place in two lists
+pub first_of_both : (a b : List Use) (name : List ℕ) → first_use (a ++ b) name ≡ option_or (first_use a name) (first_use b name)
+first_of_both a b name = find-append (λ (u : Use). same_name name u.name) a b
+
+-- a place in the first list, whether or not the second is in scope
+pub first_in_first : (is : Bool) (a b : List Use) (name : List ℕ) (u : Use) → first_use a name ≡ Some u
+    → first_use (if is then a ++ b else a) name ≡ Some u
+first_in_first true a b name u at = first_of_both a b name ∙ ap (λ o. option_or o (first_use b name)) at
+first_in_first false a b name u at = at
+
+-- a name that the first list lacks
+pub first_in_second : (a b : List Use) (name : List ℕ) → first_use a name ≡ None → first_use (a ++ b) name ≡ first_use b name
+first_in_second a b name none = first_of_both a b name ∙ ap (λ o. option_or o (first_use b name)) none

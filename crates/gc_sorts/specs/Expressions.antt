@@ -3,6 +3,7 @@
 use Rattle.std.specs.Prelude.{ℕ, ◌+◌, List, [], ◌∷◌, Bool, true, false, not, ◌&&◌, Option, Some, None, nat_eq, slice_get, unwrap_or, if◌then◌else◌}
 use Rattle.gc_expr.specs.Trees as expr
 use Rattle.gc_expr.specs.Trees.{ExprTree, Kind, AnExpr, ANode}
+use Rattle.gc_expr.specs.Views.{Names}
 use Rattle.gc_expr.specs.declared.expr.Comparison.{Comparison}
 use Rattle.gc_expr.specs.declared.expr.Comparison.TheVariants as comparison
 use Rattle.gc_expr.specs.declared.expr.Fold.{Fold}
@@ -18,12 +19,12 @@ use Rattle.gc_sorts.specs.Breaches.{Breaches, none, both, broken, broken_if}
 use Rattle.gc_sorts.specs.Graphs.{has_name}
 use Rattle.gc_sorts.specs.Variables.{Use, first_use}
 
--- where an expression stands: the places of the variables in scope; the found paths that the CONSTRUCT
--- stores; whether an aggregate may stand there; of each of its EXISTS, whether it may
+-- where an expression stands: the name table; the places of the variables in scope; the found paths
+-- that the CONSTRUCT stores, where they may be described; of each EXISTS, whether it may stand there
 pub record Standing : Type 0 where
+  pub names : Names
   pub uses : List Use
   pub stored : List (List ℕ)
-  pub folds : Bool
   pub exists : List Bool
 
 -- what a variable is, by its first place; a found path that the CONSTRUCT stores is told apart
@@ -58,7 +59,7 @@ node_form s (expr.Not e) = Condition
 node_form s (expr.And parts) = Condition
 node_form s (expr.Or parts) = Condition
 node_form s (expr.Exists i) = Condition
-node_form s node = Value
+node_form s other = Value
 
 abbrev pub form : Standing → ExprTree AnExpr → Form
 form s (expr.At token node) = node_form s node
@@ -125,45 +126,41 @@ fold_takes fold.Rows = takes.Counted
 fold_takes fold.Count = takes.Counted
 fold_takes f = takes.Value
 
--- the same place where no aggregate may stand
-abbrev pub without_folds : Standing → Standing
-without_folds s = record s { folds = false }
-
 -- whether the EXISTS of a number may stand where it does
 abbrev pub may_ask : Standing → ℕ → Bool
 may_ask s i = unwrap_or (slice_get s.exists i) false
 
--- what an expression breaks in a place that takes some forms, and what its parts break in theirs. A node
--- is given its token. The path of `nodes(p)`, `edges(p)` and `length(p)` is the second token behind.
-unfoldable pub expression_breaches : {k : Kind} → Standing → Takes → ℕ → ExprTree k → Breaches
-expression_breaches s place at (expr.At token node) =
-    both (misfit place (node_form s node) token) (expression_breaches s place token node)
-expression_breaches s place at (expr.Number n) = none
-expression_breaches s place at (expr.Text t) = none
-expression_breaches s place at (expr.Truth b) = none
-expression_breaches s place at (expr.Var x) = unknown_if (name_form s x) at
-expression_breaches s place at (expr.Property e k) = expression_breaches s takes.Described at e
-expression_breaches s place at (expr.Labelled e l) = expression_breaches s takes.Described at e
-expression_breaches s place at (expr.NodeAt p i) =
-    both (name_breaches s takes.Walked p (at + 2)) (expression_breaches s takes.Value at i)
-expression_breaches s place at (expr.EdgeAt p i) =
-    both (name_breaches s takes.Walked p (at + 2)) (expression_breaches s takes.Value at i)
-expression_breaches s place at (expr.Length p) = name_breaches s takes.Walked p (at + 2)
-expression_breaches s place at (expr.Aggregate f operand) =
-    both (broken_if (not s.folds) AggregateHere at) (expression_breaches (without_folds s) (fold_takes f) at operand)
-expression_breaches s place at (expr.Negate e) = expression_breaches s takes.Value at e
-expression_breaches s place at (expr.Sum e parts) =
-    both (expression_breaches s takes.Value at e) (expression_breaches s takes.Value at parts)
-expression_breaches s place at (expr.Product e parts) =
-    both (expression_breaches s takes.Value at e) (expression_breaches s takes.Value at parts)
-expression_breaches s place at (expr.Compare how a b) =
-    both (expression_breaches s (left_takes how) at a) (expression_breaches s (right_takes how (form s a)) at b)
-expression_breaches s place at (expr.Not e) = expression_breaches s takes.Condition at e
-expression_breaches s place at (expr.And parts) = expression_breaches s takes.Condition at parts
-expression_breaches s place at (expr.Or parts) = expression_breaches s takes.Condition at parts
-expression_breaches s place at (expr.Exists i) = broken_if (not (may_ask s i)) ExistsForm at
-expression_breaches s place at (expr.SumPart minus e) = expression_breaches s place at e
-expression_breaches s place at (expr.ProductPart op e) = expression_breaches s place at e
-expression_breaches s place at expr.none = none
-expression_breaches s place at (expr.more e es) =
-    both (expression_breaches s place at e) (expression_breaches s place at es)
+-- what an expression breaks in a place that takes some forms, and what its parts break in theirs; whether
+-- an aggregate may stand there is told, and none may stand in another. A node is given its token. The path of `nodes(p)`, `edges(p)` and `length(p)` is the second token behind.
+unfoldable pub expression_breaches : {k : Kind} → Standing → (folds : Bool) → Takes → ℕ → ExprTree k → Breaches
+expression_breaches s folds place at (expr.At token node) =
+    both (misfit place (node_form s node) token) (expression_breaches s folds place token node)
+expression_breaches s folds place at (expr.Number n) = none
+expression_breaches s folds place at (expr.Text t) = none
+expression_breaches s folds place at (expr.Truth b) = none
+expression_breaches s folds place at (expr.Var x) = unknown_if (name_form s x) at
+expression_breaches s folds place at (expr.Property e k) = expression_breaches s folds takes.Described at e
+expression_breaches s folds place at (expr.Labelled e l) = expression_breaches s folds takes.Described at e
+expression_breaches s folds place at (expr.NodeAt p i) =
+    both (name_breaches s takes.Walked p (at + 2)) (expression_breaches s folds takes.Value at i)
+expression_breaches s folds place at (expr.EdgeAt p i) =
+    both (name_breaches s takes.Walked p (at + 2)) (expression_breaches s folds takes.Value at i)
+expression_breaches s folds place at (expr.Length p) = name_breaches s takes.Walked p (at + 2)
+expression_breaches s folds place at (expr.Aggregate f operand) =
+    both (broken_if (not folds) AggregateHere at) (expression_breaches s false (fold_takes f) at operand)
+expression_breaches s folds place at (expr.Negate e) = expression_breaches s folds takes.Value at e
+expression_breaches s folds place at (expr.Sum e parts) =
+    both (expression_breaches s folds takes.Value at e) (expression_breaches s folds takes.Value at parts)
+expression_breaches s folds place at (expr.Product e parts) =
+    both (expression_breaches s folds takes.Value at e) (expression_breaches s folds takes.Value at parts)
+expression_breaches s folds place at (expr.Compare how a b) =
+    both (expression_breaches s folds (left_takes how) at a) (expression_breaches s folds (right_takes how (form s a)) at b)
+expression_breaches s folds place at (expr.Not e) = expression_breaches s folds takes.Condition at e
+expression_breaches s folds place at (expr.And parts) = expression_breaches s folds takes.Condition at parts
+expression_breaches s folds place at (expr.Or parts) = expression_breaches s folds takes.Condition at parts
+expression_breaches s folds place at (expr.Exists i) = broken_if (not (may_ask s i)) ExistsForm at
+expression_breaches s folds place at (expr.SumPart minus e) = expression_breaches s folds place at e
+expression_breaches s folds place at (expr.ProductPart op e) = expression_breaches s folds place at e
+expression_breaches s folds place at expr.none = none
+expression_breaches s folds place at (expr.more e es) =
+    both (expression_breaches s folds place at e) (expression_breaches s folds place at es)

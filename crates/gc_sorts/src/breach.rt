@@ -46,11 +46,12 @@ impl SortRule {
     }
 }
 
-/// A rule that is broken, and the number of the token at which it is.
+/// A rule that is broken, and the number of the token at which it is. Of a tree that no grammar gives
+/// the number may be past the last `u32`.
 #[derive(Clone, Copy, Debug, PartialEq, Eq)]
 pub struct Breach {
     pub rule: SortRule,
-    pub token: u32,
+    pub token: u64,
 }
 
 impl Breach {
@@ -64,7 +65,7 @@ impl Breach {
 }
 
 /// The first breach of those so far and this one.
-pub(crate) fn noted(found: Option<Breach>, rule: SortRule, token: u32) -> Option<Breach>
+pub(crate) fn noted(found: Option<Breach>, rule: SortRule, token: u64) -> Option<Breach>
     ensures { result ≡ first_among found (broken rule token) }
 {
     let breach = Breach { rule, token };
@@ -90,7 +91,7 @@ pub(crate) fn noted_if(
     found: Option<Breach>,
     is_broken: bool,
     rule: SortRule,
-    token: u32,
+    token: u64,
 ) -> Option<Breach>
     ensures { result ≡ first_among found (broken_if is_broken rule token) }
 {

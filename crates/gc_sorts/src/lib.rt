@@ -4,6 +4,7 @@
 #![tactic(auto)]
 
 mod breach;
+mod expressions;
 mod form;
 mod graphs;
 mod index;
@@ -11,6 +12,7 @@ mod matches;
 mod patterns;
 mod sizes;
 mod sort;
+mod standing;
 mod tokens;
 mod uses;
 mod variables;

@@ -60,10 +60,10 @@ fn later_place(
         return found;
     }
     if stands_once(variables, costs, first) {
-        return noted(found, SortRule::TwiceBound, place.token);
+        return noted(found, SortRule::TwiceBound, place.token as u64);
     }
     let differs = first.role.sort() != place.role.sort();
-    noted_if(found, differs, SortRule::SortClash, place.token)
+    noted_if(found, differs, SortRule::SortClash, place.token as u64)
 }
 
 fn place(
@@ -126,7 +126,7 @@ fn shared_places(
     for place in variables.from(from) {
         let first = variables.first_number(place.name);
         let is_shared = is_between(mandatory, from, first);
-        found = noted_if(found, is_shared, SortRule::SharedOptional, place.token);
+        found = noted_if(found, is_shared, SortRule::SharedOptional, place.token as u64);
     }
     found
 }

@@ -29,7 +29,7 @@ fn unknown_views(found: Option<Breach>, views: &Index, named: &NameAtList) -> Op
 fn unknown_view(found: Option<Breach>, views: &Index, view: NameAt) -> Option<Breach>
     ensures { result ≡ first_among found (unknown_views views.now.order (all_named_by (name_of views.now.names) (view ∷ []))) }
 {
-    noted_if(found, !views.has(view.sym), SortRule::UnknownView, view.token)
+    noted_if(found, !views.has(view.sym), SortRule::UnknownView, view.token as u64)
 }
 
 /// The first breach of those so far and of a path.

@@ -42,7 +42,7 @@ fn states_of(parts: &RegexList) -> u64
 pub(crate) fn too_many_states(found: Option<Breach>, regex: &Regex, at: u32) -> Option<Breach>
     ensures { result ≡ first_among found (too_many_states (regex_tree regex.now) at) }
 {
-    noted_if(found, state_count(regex) > MOST_STATES, SortRule::TooLarge, at)
+    noted_if(found, state_count(regex) > MOST_STATES, SortRule::TooLarge, at as u64)
 }
 
 /// The first breach of those so far and a number before SHORTEST that is none of 1 to 1,000.
@@ -51,7 +51,7 @@ pub(crate) fn out_of_range(found: Option<Breach>, count: &Option<CountAt>) -> Op
 {
     match count {
         None => found,
-        Some(k) => noted_if(found, !is_in_range(k.count), SortRule::KOutOfRange, k.token),
+        Some(k) => noted_if(found, !is_in_range(k.count), SortRule::KOutOfRange, k.token as u64),
     }
 }
 
@@ -67,6 +67,6 @@ pub(crate) fn too_many(found: Option<Breach>, tokens: &[u32]) -> Option<Breach>
 {
     match tokens.get(100) {
         None => found,
-        Some(token) => noted(found, SortRule::TooLarge, *token),
+        Some(token) => noted(found, SortRule::TooLarge, *token as u64),
     }
 }
