@@ -4,3 +4,4 @@ pub mod StateLoops
 pub mod LoadedSlots
 pub mod Rows
 pub mod UsePlaces
+pub mod ConstructTrees

@@ -1,6 +1,8 @@
 pub mod Breaches
+pub mod Constructs
 pub mod Expressions
 pub mod Graphs
+pub mod Links
 pub mod Matches
 pub mod Orders
 pub mod Patterns

@@ -92,8 +92,8 @@ pub(crate) fn unknown_if(found: Option<Breach>, form: Form, token: u64) -> Optio
     }
 }
 
-// The first breach of those so far and of a name at a token where a place takes some forms.
-fn name(
+/// The first breach of those so far and of a name at a token where a place takes some forms.
+pub(crate) fn name_at(
     found: Option<Breach>,
     place: &Place,
     takes: Takes,
@@ -172,10 +172,10 @@ fn node(
             expression(found, place, folds, Takes::Described, of)
         }
         ExprNode::NodeAt(path, index) | ExprNode::EdgeAt(path, index) => {
-            let found = name(found, place, Takes::Walked, *path, at + 2);
+            let found = name_at(found, place, Takes::Walked, *path, at + 2);
             expression(found, place, folds, Takes::Value, index)
         }
-        ExprNode::Length(path) => name(found, place, Takes::Walked, *path, at + 2),
+        ExprNode::Length(path) => name_at(found, place, Takes::Walked, *path, at + 2),
         ExprNode::Aggregate(fold, operand) => {
             let found = noted_if(found, !folds, SortRule::AggregateHere, at);
             match operand {

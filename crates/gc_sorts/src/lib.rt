@@ -4,10 +4,13 @@
 #![tactic(auto)]
 
 mod breach;
+mod constructs;
 mod expressions;
 mod form;
 mod graphs;
 mod index;
+mod makes;
+mod making;
 mod matches;
 mod patterns;
 mod sizes;

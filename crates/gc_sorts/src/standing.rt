@@ -14,6 +14,7 @@ use std::marker::Model;
 
 /// Where an expression stands: the places of the variables in scope, and in a WHEN those of the
 /// CONSTRUCT, with the paths that it stores; and of each EXISTS, whether it may stand there.
+#[derive(Drop)]
 pub(crate) struct Place<'a, 'n> {
     pub variables: &'a Variables<'n>,
     pub made: &'a Variables<'n>,

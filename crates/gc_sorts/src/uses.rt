@@ -25,8 +25,8 @@ fn add(variables: &mut Variables, role: Role, name: NameAt) -> Result<(), Memory
     })
 }
 
-// Adds a place that may be absent.
-fn add_if(variables: &mut Variables, role: Role, name: &Option<NameAt>) -> Result<(), Memory>
+/// Adds a place that may be absent.
+pub(crate) fn add_if(variables: &mut Variables, role: Role, name: &Option<NameAt>) -> Result<(), Memory>
     ensures names { variables.new.names ≡ variables.old.names }
     ensures uses { OnOk result (variables.new.uses ≡ variables.old.uses ++ use_if role (named_if variables.old.names name.now)) }
 {

@@ -1,0 +1,14 @@
+use Rattle.std.proofs.Common.{◌≡◌, drop, map}
+use Rattle.gc_ast.specs.PatternViews.{group_term_tree}
+use Rattle.gc_ast.specs.QueryViews.{assign_tree, part_tree, change_tree, item_tree}
+use Rattle.gc_ast.specs.Trees.{row}
+use Rattle.gc_sorts.specs.Breaches.{first_among}
+use Rattle.gc_sorts.specs.Constructs.{assign_breaches, term_breaches, part_breaches, change_breaches, item_breaches}
+use Rattle.gc_sorts.specs.Graphs.{known}
+use Rattle.gc_sorts.specs.Patterns.{each}
+use Rattle.gc_sorts.proofs.constructs.parts.Given as goal
+
+abbrev pub invariant-loop-one : goal.invariant-loop-one
+invariant-loop-one l =
+    first_among l.found (each (part_breaches l.making) (row (map (part_tree l.making.names) (drop l.one-index l.one-items))))
+    ≡ first_among l.initial.found (each (part_breaches l.making) (row (map (part_tree l.making.names) l.one-items)))
