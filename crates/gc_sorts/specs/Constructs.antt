@@ -1,6 +1,5 @@
 -- What the items of a CONSTRUCT break, but for its links.
 use Rattle.std.specs.Prelude.{ℕ, ◌-◌, List, [], ◌∷◌, ◌++◌, Bool, true, false, not, ◌&&◌, ◌||◌, Option, Some, None, nat_eq, if◌then◌else◌}
-use Rattle.gc_expr.specs.Views.{Names}
 use Rattle.gc_ast.specs.Trees as tree
 use Rattle.gc_ast.specs.Trees.{Tree, Named, RowOf, AFormula, AnItem, AConstructPart, ANewElement, AGroupTerm, AnAssign, AChange}
 use Rattle.gc_sorts.specs.declared.breach.SortRule.TheVariants.{UnknownName, AllNotProjected, TwiceGrouped}
@@ -20,7 +19,6 @@ use Rattle.gc_sorts.specs.Variables.{Use, first_use, has_use}
 -- what a CONSTRUCT names, in text order: the nodes and edges of its chains; the paths that it stores;
 -- the named elements that have a GROUP, at its word; those that are a copy, at the `=`
 pub record Made : Type 0 where
-  pub names : Names
   pub made : List Use
   pub stored : List (List ℕ)
   pub groups : List Use
@@ -28,7 +26,6 @@ pub record Made : Type 0 where
 
 -- the same beside what the MATCH binds
 pub record Making : Type 0 where
-  pub names : Names
   pub matched : List Use
   pub made : List Use
   pub stored : List (List ℕ)
@@ -37,7 +34,7 @@ pub record Making : Type 0 where
 
 abbrev pub making : List Use → Made → Making
 making matched m =
-    record { names = m.names; matched = matched; made = m.made; stored = m.stored; groups = m.groups; copies = m.copies }
+    record { matched = matched; made = m.made; stored = m.stored; groups = m.groups; copies = m.copies }
 
 -- the names of nodes and edges
 abbrev pub element_made : Role → Tree ANewElement → List Use
@@ -103,6 +100,10 @@ abbrev pub item_copies : Tree AnItem → List Use
 item_copies (tree.GraphItem graph) = []
 item_copies (tree.ChainItem parts changes condition) = all_of part_copies parts
 
+-- nothing
+abbrev pub nothing_made : Made
+nothing_made = record { made = []; stored = []; groups = []; copies = [] }
+
 -- what is named with a part of a chain, with parts, with an item and with items
 abbrev pub with_part : Made → Tree AConstructPart → Made
 with_part m part =
@@ -122,11 +123,11 @@ with_items m items =
 
 -- where what is given stands: it sees the variables of the MATCH
 abbrev pub given : Making → Standing
-given m = record { names = m.names; uses = m.matched; stored = []; exists = [] }
+given m = record { uses = m.matched; stored = []; exists = [] }
 
 -- where a WHEN stands: it sees those of the CONSTRUCT too
 abbrev pub when_ : Making → Standing
-when_ m = record { names = m.names; uses = m.matched ++ m.made; stored = m.stored; exists = [] }
+when_ m = record { uses = m.matched ++ m.made; stored = m.stored; exists = [] }
 
 -- an expression at a place; its EXISTS may not stand there
 abbrev pub formula_breaches : Standing → Bool → Takes → Tree AFormula → Breaches

@@ -3,7 +3,6 @@
 use Rattle.std.specs.Prelude.{ℕ, ◌+◌, List, [], ◌∷◌, Bool, true, false, not, ◌&&◌, Option, Some, None, nat_eq, slice_get, unwrap_or, if◌then◌else◌}
 use Rattle.gc_expr.specs.Trees as expr
 use Rattle.gc_expr.specs.Trees.{ExprTree, Kind, AnExpr, ANode}
-use Rattle.gc_expr.specs.Views.{Names}
 use Rattle.gc_expr.specs.declared.expr.Comparison.{Comparison}
 use Rattle.gc_expr.specs.declared.expr.Comparison.TheVariants as comparison
 use Rattle.gc_expr.specs.declared.expr.Fold.{Fold}
@@ -19,10 +18,9 @@ use Rattle.gc_sorts.specs.Breaches.{Breaches, none, both, broken, broken_if}
 use Rattle.gc_sorts.specs.Graphs.{has_name}
 use Rattle.gc_sorts.specs.Variables.{Use, first_use}
 
--- where an expression stands: the name table; the places of the variables in scope; the found paths
--- that the CONSTRUCT stores, where they may be described; of each EXISTS, whether it may stand there
+-- where an expression stands: the places of the variables in scope; the found paths that the CONSTRUCT
+-- stores, where they may be described; of each EXISTS, whether it may stand there
 pub record Standing : Type 0 where
-  pub names : Names
   pub uses : List Use
   pub stored : List (List ℕ)
   pub exists : List Bool

@@ -68,35 +68,87 @@ path_name (tree.Found k path regex views cost) = Some path.name
 path_name (tree.All path regex views) = Some path.name
 path_name (tree.Stored path labels) = Some path.name
 
--- a link that may have no name
-abbrev pub link_if : Option (List ℕ) → Option (List ℕ) → Option (List ℕ) → Direction → List Link
-link_if None left right way = []
-link_if (Some name) left right way = record { name = name; left = left; right = right; way = way } ∷ []
+-- a link of a variable that has no place before its block
+abbrev pub link_if : List Use → Option (List ℕ) → Option (List ℕ) → Option (List ℕ) → Direction → List Link
+link_if before None left right way = []
+link_if before (Some name) left right way =
+    if has_use before name then [] else record { name = name; left = left; right = right; way = way } ∷ []
 
--- the link that a part of a chain is, if it is one
-abbrev pub pattern_links : Tree APattern → Option (List ℕ) → Option (List ℕ) → List Link
-pattern_links (tree.Node element) left right = []
-pattern_links (tree.Edge way element) left right = link_if (element_name element) left right way
-pattern_links (tree.Path token regex_at body) left right = link_if (path_name body) left right Forward
+-- the link that a part of a chain is, if it is one; path patterns go forward
+abbrev pub pattern_links : List Use → Option (List ℕ) → Option (List ℕ) → Tree APattern → List Link
+pattern_links before left right (tree.Node element) = []
+pattern_links before left right (tree.Edge way element) = link_if before (element_name element) left right way
+pattern_links before left right (tree.Path token regex_at body) = link_if before (path_name body) left right Forward
 
--- the links of the parts of a chain behind a part of a name; path patterns go forward
-abbrev pub chain_links : Option (List ℕ) → Tree (RowOf APattern) → List Link
-chain_links left tree.none = []
-chain_links left (tree.more part parts) = pattern_links part left (front_name parts) ++ chain_links (node_name part) parts
+-- the links of the parts of a chain behind a part of a name
+abbrev pub chain_links : List Use → Option (List ℕ) → Tree (RowOf APattern) → List Link
+chain_links before left tree.none = []
+chain_links before left (tree.more part parts) =
+    pattern_links before left (front_name parts) part ++ chain_links before (node_name part) parts
 
-abbrev pub located_links : Tree ALocated → List Link
-located_links (tree.Located parts on) = chain_links None parts
+abbrev pub located_links : List Use → Tree ALocated → List Link
+located_links before (tree.Located parts on) = chain_links before None parts
 
-abbrev pub block_links : Tree ABlock → List Link
-block_links (tree.Block patterns filter) = all_of located_links patterns
+abbrev pub block_links : List Use → Tree ABlock → List Link
+block_links before (tree.Block patterns filter) = all_of (located_links before) patterns
 
--- the links of the first of OPTIONAL blocks that has a variable
-abbrev pub optional_links : List ℕ → Tree (RowOf AnOptional) → List Link
-optional_links name tree.none = []
-optional_links name (tree.more (tree.Optional token block) os) =
-    if has_use (block_uses block) name then block_links block else optional_links name os
+-- those of OPTIONAL blocks behind some places
+abbrev pub optional_links : List Use → Tree (RowOf AnOptional) → List Link
+optional_links before tree.none = []
+optional_links before (tree.more (tree.Optional token block) os) =
+    block_links before block ++ optional_links (before ++ block_uses block) os
 
--- the links of the block that has a variable's first place
-abbrev pub links_of : Tree ABlock → Tree (RowOf AnOptional) → List ℕ → List Link
-links_of main optionals name =
-    if has_use (block_uses main) name then block_links main else optional_links name optionals
+-- the name of a node of a construct chain, and of one at the front of its parts
+abbrev pub new_name : Tree ANewElement → Option (List ℕ)
+new_name (tree.NewElement token name copy group labels assigns) = name_if name
+
+abbrev pub part_name : Tree AConstructPart → Option (List ℕ)
+part_name (tree.NewNode element) = new_name element
+part_name part = None
+
+abbrev pub front_part_name : Tree (RowOf AConstructPart) → Option (List ℕ)
+front_part_name tree.none = None
+front_part_name (tree.more part parts) = part_name part
+
+-- the `[` of an edge, which stands behind `-` or `<-`
+abbrev pub bracket : Direction → ℕ → ℕ
+bracket Backward token = token + 2
+bracket way token = token + 1
+
+abbrev pub is_either : Direction → Bool
+is_either Either = true
+is_either way = false
+
+-- a link that the MATCH binds
+abbrev pub bound_link : List Link → Link → ℕ → Breaches
+bound_link links link token = broken_if (not (list_any (fits link) links)) LooseEdge token
+
+abbrev pub bound_if : List Use → List Link → Link → ℕ → Breaches
+bound_if matched links link token = if has_use matched link.name then bound_link links link token else none
+
+-- an edge: one that the MATCH binds has to fit, a new one needs a direction
+abbrev pub loose_edge : List Use → List Link → Option (List ℕ) → Option (List ℕ) → Direction → ℕ → Option (List ℕ) → Breaches
+loose_edge matched links left right way token None = broken_if (is_either way) LooseEdge token
+loose_edge matched links left right way token (Some name) =
+    if has_use matched name then bound_link links (record { name = name; left = left; right = right; way = way }) token
+    else broken_if (is_either way) LooseEdge token
+
+-- a part of a construct chain between its neighbours
+abbrev pub loose_part : List Use → List Link → Option (List ℕ) → Option (List ℕ) → Tree AConstructPart → Breaches
+loose_part matched links left right (tree.NewNode element) = none
+loose_part matched links left right (tree.NewEdge way (tree.NewElement token name copy group labels assigns)) =
+    loose_edge matched links left right way (bracket way token) (name_if name)
+loose_part matched links left right (tree.Projected token path) =
+    bound_if matched links (record { name = path.name; left = left; right = right; way = Forward }) (token + 1)
+loose_part matched links left right (tree.NewStored token path labels assigns) =
+    bound_if matched links (record { name = path.name; left = left; right = right; way = Forward }) (token + 1)
+
+-- the parts of a construct chain behind a part of a name
+abbrev pub loose_parts : List Use → List Link → Option (List ℕ) → Tree (RowOf AConstructPart) → Breaches
+loose_parts matched links left tree.none = none
+loose_parts matched links left (tree.more part parts) =
+    both (loose_part matched links left (front_part_name parts) part) (loose_parts matched links (part_name part) parts)
+
+abbrev pub loose_item : List Use → List Link → Tree AnItem → Breaches
+loose_item matched links (tree.GraphItem graph) = none
+loose_item matched links (tree.ChainItem parts changes condition) = loose_parts matched links None parts

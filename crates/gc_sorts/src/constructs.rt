@@ -33,21 +33,21 @@ pub(crate) fn formula(
     takes: Takes,
     formula: &Formula,
 ) -> Option<Breach>
-    ensures { result ≡ first_among found (constructs.formula_breaches place.now folds takes (formula_tree place.now.names formula.now)) }
+    ensures { result ≡ first_among found (constructs.formula_breaches place.now.at folds takes (formula_tree place.now.names formula.now)) }
 {
     expression(found, place, folds, takes, &formula.expr)
 }
 
 #[tactic(auto, unfolding(gc_ast::specs::QueryViews::assign_by, gc_ast::specs::QueryViews::formula_by))]
 fn assign(found: Option<Breach>, making: &Making, assign: &Assign) -> Option<Breach>
-    ensures { result ≡ first_among found (constructs.assign_breaches making.now (assign_tree making.now.names assign.now)) }
+    ensures { result ≡ first_among found (constructs.assign_breaches making.now.all (assign_tree making.now.names assign.now)) }
 {
     let place = making.given();
     formula(found, &place, true, Takes::Value, &assign.value)
 }
 
 fn assigns(found: Option<Breach>, making: &Making, given: &AssignList) -> Option<Breach>
-    ensures { result ≡ first_among found (each (constructs.assign_breaches making.now) (row (map (assign_tree making.now.names) given.now.items))) }
+    ensures { result ≡ first_among found (each (constructs.assign_breaches making.now.all) (row (map (assign_tree making.now.names) given.now.items))) }
 {
     let mut found = found;
     for one in given {
@@ -63,7 +63,7 @@ fn made(
     kind: Form,
     name: &Option<NameAt>,
 ) -> Option<Breach>
-    ensures { result ≡ first_among found (constructs.made_breaches making.now kind (named_if making.now.names name.now)) }
+    ensures { result ≡ first_among found (constructs.made_breaches making.now.all kind (named_if making.now.names name.now)) }
 {
     match name {
         None => found,
@@ -80,7 +80,7 @@ fn copy(
     kind: Form,
     copied: &Option<NameAt>,
 ) -> Option<Breach>
-    ensures { result ≡ first_among found (constructs.copy_breaches making.now kind (named_if making.now.names copied.now)) }
+    ensures { result ≡ first_among found (constructs.copy_breaches making.now.all kind (named_if making.now.names copied.now)) }
 {
     match copied {
         None => found,
@@ -92,7 +92,7 @@ fn copy(
 }
 
 fn term(found: Option<Breach>, making: &Making, term: &GroupTerm) -> Option<Breach>
-    ensures { result ≡ first_among found (constructs.term_breaches making.now (group_term_tree making.now.names term.now)) }
+    ensures { result ≡ first_among found (constructs.term_breaches making.now.all (group_term_tree making.now.names term.now)) }
 {
     let place = making.given();
     let takes = match &term.property {
@@ -103,7 +103,7 @@ fn term(found: Option<Breach>, making: &Making, term: &GroupTerm) -> Option<Brea
 }
 
 fn terms(found: Option<Breach>, making: &Making, group: &GroupTermList) -> Option<Breach>
-    ensures { result ≡ first_among found (each (constructs.term_breaches making.now) (row (map (group_term_tree making.now.names) group.now))) }
+    ensures { result ≡ first_among found (each (constructs.term_breaches making.now.all) (row (map (group_term_tree making.now.names) group.now))) }
 {
     let mut found = found;
     for one in group.as_slice() {
@@ -114,7 +114,7 @@ fn terms(found: Option<Breach>, making: &Making, group: &GroupTermList) -> Optio
 
 // The GROUP of an element.
 fn grouped(found: Option<Breach>, making: &Making, place: Option<UseAt>) -> Option<Breach>
-    ensures { result ≡ first_among found (constructs.each_twice making.now.matched making.now.groups (map (use_by making.now.names) (option_to_list place))) }
+    ensures { result ≡ first_among found (constructs.each_twice making.now.all.matched making.now.all.groups (map (use_by making.now.names) (option_to_list place))) }
 {
     match place {
         None => found,
@@ -127,7 +127,7 @@ fn grouped(found: Option<Breach>, making: &Making, place: Option<UseAt>) -> Opti
 
 // The `=` of an element.
 fn copied(found: Option<Breach>, making: &Making, place: Option<UseAt>) -> Option<Breach>
-    ensures { result ≡ first_among found (constructs.each_twice making.now.matched making.now.copies (map (use_by making.now.names) (option_to_list place))) }
+    ensures { result ≡ first_among found (constructs.each_twice making.now.all.matched making.now.all.copies (map (use_by making.now.names) (option_to_list place))) }
 {
     match place {
         None => found,
@@ -139,7 +139,7 @@ fn copied(found: Option<Breach>, making: &Making, place: Option<UseAt>) -> Optio
 }
 
 fn second_edge(found: Option<Breach>, making: &Making, name: &Option<NameAt>) -> Option<Breach>
-    ensures { result ≡ first_among found (constructs.second_edge making.now (named_if making.now.names name.now)) }
+    ensures { result ≡ first_among found (constructs.second_edge making.now.all (named_if making.now.names name.now)) }
 {
     match name {
         None => found,
@@ -159,7 +159,7 @@ fn element(
     role: Role,
     element: &NewElement,
 ) -> Option<Breach>
-    ensures { result ≡ first_among found (constructs.element_breaches making.now kind role (new_element_tree making.now.names element.now)) }
+    ensures { result ≡ first_among found (constructs.element_breaches making.now.all kind role (new_element_tree making.now.names element.now)) }
 {
     let found = made(found, making, kind, &element.name);
     let found = copy(found, making, kind, &element.copy);
@@ -171,7 +171,7 @@ fn element(
 
 #[tactic(auto, unfolding(gc_ast::specs::QueryViews::new_element_by, gc_ast::specs::QueryViews::assign_by))]
 fn edge(found: Option<Breach>, making: &Making, new: &NewElement) -> Option<Breach>
-    ensures { result ≡ first_among found (constructs.edge_breaches making.now (new_element_tree making.now.names new.now)) }
+    ensures { result ≡ first_among found (constructs.edge_breaches making.now.all (new_element_tree making.now.names new.now)) }
 {
     let found = second_edge(found, making, &new.name);
     element(found, making, Form::Edge, Role::Edge, new)
@@ -192,7 +192,7 @@ fn stored(
     name: NameAt,
     given: &AssignList,
 ) -> Option<Breach>
-    ensures { result ≡ first_among found (constructs.stored_breaches making.now (named making.now.names name) (row (map (assign_tree making.now.names) given.now.items))) }
+    ensures { result ≡ first_among found (constructs.stored_breaches making.now.all (named making.now.names name) (row (map (assign_tree making.now.names) given.now.items))) }
 {
     let place = making.given();
     let found = name_at(found, &place, Takes::Walked, name.sym, name.token as u64);
@@ -201,7 +201,7 @@ fn stored(
 
 #[tactic(auto, unfolding(gc_ast::specs::QueryViews::part_by, gc_ast::specs::QueryViews::new_element_by, gc_ast::specs::QueryViews::assign_by))]
 fn part(found: Option<Breach>, making: &Making, part: &ConstructPart) -> Option<Breach>
-    ensures { result ≡ first_among found (constructs.part_breaches making.now (part_tree making.now.names part.now)) }
+    ensures { result ≡ first_among found (constructs.part_breaches making.now.all (part_tree making.now.names part.now)) }
 {
     match part {
         ConstructPart::Node(new) => element(found, making, Form::Node, Role::Node, new),
@@ -221,7 +221,7 @@ fn part(found: Option<Breach>, making: &Making, part: &ConstructPart) -> Option<
 
 #[tactic(auto, unfolding(gc_ast::specs::QueryViews::part_by))]
 fn parts(found: Option<Breach>, making: &Making, chain: &ConstructPartList) -> Option<Breach>
-    ensures { result ≡ first_among found (each (constructs.part_breaches making.now) (row (map (part_tree making.now.names) chain.now.items))) }
+    ensures { result ≡ first_among found (each (constructs.part_breaches making.now.all) (row (map (part_tree making.now.names) chain.now.items))) }
 {
     let mut found = found;
     for one in chain {
@@ -232,7 +232,7 @@ fn parts(found: Option<Breach>, making: &Making, chain: &ConstructPartList) -> O
 
 // The target of a SET or REMOVE.
 fn target(found: Option<Breach>, making: &Making, name: NameAt) -> Option<Breach>
-    ensures { result ≡ first_among found (constructs.target_breaches making.now (named making.now.names name)) }
+    ensures { result ≡ first_among found (constructs.target_breaches making.now.all (named making.now.names name)) }
 {
     if !making.is_target(name.sym) {
         return noted(found, SortRule::UnknownName, name.token as u64);
@@ -245,7 +245,7 @@ fn target(found: Option<Breach>, making: &Making, name: NameAt) -> Option<Breach
 
 #[tactic(auto, unfolding(gc_ast::specs::QueryViews::change_by, gc_ast::specs::QueryViews::assign_by))]
 fn change(found: Option<Breach>, making: &Making, change: &Change) -> Option<Breach>
-    ensures { result ≡ first_among found (constructs.change_breaches making.now (change_tree making.now.names change.now)) }
+    ensures { result ≡ first_among found (constructs.change_breaches making.now.all (change_tree making.now.names change.now)) }
 {
     match change {
         Change::Assign {
@@ -263,7 +263,7 @@ fn change(found: Option<Breach>, making: &Making, change: &Change) -> Option<Bre
 
 #[tactic(auto, unfolding(gc_ast::specs::QueryViews::change_by))]
 fn changes(found: Option<Breach>, making: &Making, all: &ChangeList) -> Option<Breach>
-    ensures { result ≡ first_among found (each (constructs.change_breaches making.now) (row (map (change_tree making.now.names) all.now.items))) }
+    ensures { result ≡ first_among found (each (constructs.change_breaches making.now.all) (row (map (change_tree making.now.names) all.now.items))) }
 {
     let mut found = found;
     for one in all {
@@ -274,7 +274,7 @@ fn changes(found: Option<Breach>, making: &Making, all: &ChangeList) -> Option<B
 
 // The condition of an item.
 fn condition(found: Option<Breach>, making: &Making, when: &Option<Formula>) -> Option<Breach>
-    ensures { result ≡ first_among found (each (constructs.formula_breaches (constructs.when_ making.now) false takes.Condition) (maybe (option_map (formula_tree making.now.names) when.now))) }
+    ensures { result ≡ first_among found (each (constructs.formula_breaches (constructs.when_ making.now.all) false takes.Condition) (maybe (option_map (formula_tree making.now.names) when.now))) }
 {
     match when {
         None => found,
@@ -293,7 +293,7 @@ fn item(
     item: &Item,
 ) -> Option<Breach>
     requires { graphs.now.names ≡ making.now.names }
-    ensures { result ≡ first_among found (constructs.item_breaches (known graphs.now) making.now (item_tree making.now.names item.now)) }
+    ensures { result ≡ first_among found (constructs.item_breaches (known graphs.now) making.now.all (item_tree making.now.names item.now)) }
 {
     match item {
         Item::Graph(name) => unknown_graph(found, graphs, *name),
@@ -317,7 +317,7 @@ pub(crate) fn items(
     all: &ItemList,
 ) -> Option<Breach>
     requires { graphs.now.names ≡ making.now.names }
-    ensures { result ≡ first_among found (each (constructs.item_breaches (known graphs.now) making.now) (row (map (item_tree making.now.names) all.now.items))) }
+    ensures { result ≡ first_among found (each (constructs.item_breaches (known graphs.now) making.now.all) (row (map (item_tree making.now.names) all.now.items))) }
 {
     let mut found = found;
     for one in all {

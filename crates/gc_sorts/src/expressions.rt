@@ -14,14 +14,14 @@ use gc_expr::{Comparison, Expr, ExprList, ExprNode, Fold, ProductPartList, SumPa
 // What is known of an expression.
 #[tactic(auto, unfolding(gc_expr::specs::Trees::renamed, gc_expr::specs::Views::numbered_expr, gc_expr::specs::Views::numbered_node))]
 fn form(place: &Place, expr: &Expr) -> Form
-    ensures { result ≡ form place.now (renamed (name_of place.now.names) (numbered_expr expr.now)) }
+    ensures { result ≡ form place.now.at (renamed (name_of place.now.names) (numbered_expr expr.now)) }
 {
     node_form(place, &expr.node)
 }
 
 #[tactic(auto, unfolding(gc_expr::specs::Trees::renamed, gc_expr::specs::Views::numbered_expr, gc_expr::specs::Views::numbered_node))]
 fn node_form(place: &Place, node: &ExprNode) -> Form
-    ensures { result ≡ node_form place.now (renamed (name_of place.now.names) (numbered_node node.now)) }
+    ensures { result ≡ node_form place.now.at (renamed (name_of place.now.names) (numbered_node node.now)) }
 {
     match node {
         ExprNode::Var(name) => place.form_of(*name),
@@ -100,7 +100,7 @@ pub(crate) fn name_at(
     name: Sym,
     token: u64,
 ) -> Option<Breach>
-    ensures { result ≡ first_among found (name_breaches place.now takes (name_of place.now.names name) token) }
+    ensures { result ≡ first_among found (name_breaches place.now.at takes (name_of place.now.names name) token) }
 {
     let form = place.form_of(name);
     let found = unknown_if(found, form, token);
@@ -145,7 +145,7 @@ pub(crate) fn expression(
     takes: Takes,
     expr: &Expr,
 ) -> Option<Breach>
-    ensures { (at : ℕ) → result ≡ first_among found (expression_breaches place.now folds takes at (renamed (name_of place.now.names) (numbered_expr expr.now))) }
+    ensures { (at : ℕ) → result ≡ first_among found (expression_breaches place.now.at folds takes at (renamed (name_of place.now.names) (numbered_expr expr.now))) }
 {
     let token = expr.token as u64;
     let found = misfit(found, takes, node_form(place, &expr.node), token);
@@ -163,7 +163,7 @@ fn node(
     node: &ExprNode,
 ) -> Option<Breach>
     requires { at < 2 ^ 32 }
-    ensures { result ≡ first_among found (expression_breaches place.now folds takes at (renamed (name_of place.now.names) (numbered_node node.now))) }
+    ensures { result ≡ first_among found (expression_breaches place.now.at folds takes at (renamed (name_of place.now.names) (numbered_node node.now))) }
 {
     match node {
         ExprNode::Number(_) | ExprNode::Text(_) | ExprNode::Truth(_) => found,
@@ -213,7 +213,7 @@ fn conditions(
     folds: bool,
     parts: &ExprList,
 ) -> Option<Breach>
-    ensures { (at : ℕ) → result ≡ first_among found (expression_breaches place.now folds takes.Condition at (renamed (name_of place.now.names) (row (map numbered_expr parts.now.items)))) }
+    ensures { (at : ℕ) → result ≡ first_among found (expression_breaches place.now.at folds takes.Condition at (renamed (name_of place.now.names) (row (map numbered_expr parts.now.items)))) }
 {
     let mut found = found;
     for part in parts {
@@ -230,7 +230,7 @@ fn sum_parts(
     folds: bool,
     parts: &SumPartList,
 ) -> Option<Breach>
-    ensures { (at : ℕ) → result ≡ first_among found (expression_breaches place.now folds takes.Value at (renamed (name_of place.now.names) (row (map numbered_sum_part parts.now.items)))) }
+    ensures { (at : ℕ) → result ≡ first_among found (expression_breaches place.now.at folds takes.Value at (renamed (name_of place.now.names) (row (map numbered_sum_part parts.now.items)))) }
 {
     let mut found = found;
     for part in parts {
@@ -247,7 +247,7 @@ fn product_parts(
     folds: bool,
     parts: &ProductPartList,
 ) -> Option<Breach>
-    ensures { (at : ℕ) → result ≡ first_among found (expression_breaches place.now folds takes.Value at (renamed (name_of place.now.names) (row (map numbered_product_part parts.now.items)))) }
+    ensures { (at : ℕ) → result ≡ first_among found (expression_breaches place.now.at folds takes.Value at (renamed (name_of place.now.names) (row (map numbered_product_part parts.now.items)))) }
 {
     let mut found = found;
     for part in parts {

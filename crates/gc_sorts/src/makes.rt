@@ -4,7 +4,7 @@ ghost use Rattle.gc_expr.specs.Views.{Names};
 ghost use Rattle.gc_ast.specs.PatternViews.{named_if, group_term_tree};
 ghost use Rattle.gc_ast.specs.QueryViews.{item_tree, part_tree};
 ghost use Rattle.gc_ast.specs.Trees.{row};
-ghost use Rattle.gc_sorts.specs.Constructs.{part_made, part_stored, use_before, group_uses, copy_uses, part_groups, part_copies, with_part, with_parts, with_item, with_items};
+ghost use Rattle.gc_sorts.specs.Constructs.{part_made, part_stored, use_before, group_uses, copy_uses, part_groups, part_copies, nothing_made, with_part, with_parts, with_item, with_items};
 ghost use Rattle.gc_sorts.specs.Variables.{use_by};
 
 use crate::index::Index;
@@ -28,11 +28,11 @@ pub(crate) struct Makes<'n> {
 
 impl<'n> Model for Makes<'n> {
     ghost use Rattle.std.specs.Prelude.{◌≡◌};
-    ghost use Rattle.gc_sorts.specs.Constructs as constructs;
+    ghost use Rattle.gc_sorts.specs.Holders as holders;
 
-    ghost Value = { constructs.Made };
+    ghost Value = { holders.HeldMade };
 
-    ghost view = { λ m. record { names = m.made.names; made = m.made.uses; stored = m.stored.order; groups = m.groups.uses; copies = m.copies.uses } };
+    ghost view = { λ m. record { names = m.made.names; all = record { made = m.made.uses; stored = m.stored.order; groups = m.groups.uses; copies = m.copies.uses } } };
 
     ghost invariant = { λ m. (m.stored.names ≡ m.made.names) × (m.groups.names ≡ m.made.names) × (m.copies.names ≡ m.made.names) };
 }
@@ -40,7 +40,7 @@ impl<'n> Model for Makes<'n> {
 impl<'n> Makes<'n> {
     /// Nothing yet.
     pub fn of(alloc: Global, names: &'n NameTable) -> Result<Makes<'n>, Memory>
-        ensures { IfOk result (λ makes. makes ≡ record { names = names.now; made = []; stored = []; groups = []; copies = [] }) }
+        ensures { IfOk result (λ makes. makes ≡ record { names = names.now; all = nothing_made }) }
     {
         let made = Variables::of(alloc, names)?;
         let stored = Index::of(alloc, names)?;
@@ -56,7 +56,7 @@ impl<'n> Makes<'n> {
 
     /// Forgets all of it.
     pub fn clear(&mut self)
-        ensures { self.new ≡ record { names = self.old.names; made = []; stored = []; groups = []; copies = [] } }
+        ensures { self.new ≡ record { names = self.old.names; all = nothing_made } }
     {
         self.made.cut(0);
         self.stored.cut(0);
@@ -67,7 +67,7 @@ impl<'n> Makes<'n> {
     // Adds what a part of a chain names.
     fn add_part(&mut self, part: &ConstructPart) -> Result<(), Memory>
         ensures names { self.new.names ≡ self.old.names }
-        ensures ok { OnOk result (self.new ≡ with_part self.old (part_tree self.old.names part.now)) }
+        ensures ok { OnOk result (self.new.all ≡ with_part self.old.all (part_tree self.old.names part.now)) }
     {
         add_made(&mut self.made, part)?;
         add_stored(&mut self.stored, part)?;
@@ -77,7 +77,7 @@ impl<'n> Makes<'n> {
 
     fn add_parts(&mut self, parts: &ConstructPartList) -> Result<(), Memory>
         ensures names { self.new.names ≡ self.old.names }
-        ensures ok { OnOk result (self.new ≡ with_parts self.old (row (map (part_tree self.old.names) parts.now.items))) }
+        ensures ok { OnOk result (self.new.all ≡ with_parts self.old.all (row (map (part_tree self.old.names) parts.now.items))) }
     {
         for part in parts {
             self.add_part(part)?;
@@ -88,7 +88,7 @@ impl<'n> Makes<'n> {
     #[tactic(auto, unfolding(gc_ast::specs::QueryViews::item_by, gc_ast::specs::QueryViews::part_by))]
     fn add_item(&mut self, item: &Item) -> Result<(), Memory>
         ensures names { self.new.names ≡ self.old.names }
-        ensures ok { OnOk result (self.new ≡ with_item self.old (item_tree self.old.names item.now)) }
+        ensures ok { OnOk result (self.new.all ≡ with_item self.old.all (item_tree self.old.names item.now)) }
     {
         match item {
             Item::Graph(_) => Ok(()),
@@ -99,7 +99,7 @@ impl<'n> Makes<'n> {
     /// Adds what items name.
     pub fn add_items(&mut self, items: &ItemList) -> Result<(), Memory>
         ensures names { self.new.names ≡ self.old.names }
-        ensures ok { OnOk result (self.new ≡ with_items self.old (row (map (item_tree self.old.names) items.now.items))) }
+        ensures ok { OnOk result (self.new.all ≡ with_items self.old.all (row (map (item_tree self.old.names) items.now.items))) }
     {
         for item in items {
             self.add_item(item)?;

@@ -21,12 +21,12 @@ pub(crate) struct Making<'a, 'n> {
 
 impl<'a, 'n> Model for Making<'a, 'n> {
     ghost use Rattle.std.specs.Prelude.{◌≡◌};
-    ghost use Rattle.gc_sorts.specs.Constructs as constructs;
     ghost use Rattle.gc_sorts.specs.Constructs.{making};
+    ghost use Rattle.gc_sorts.specs.Holders as holders;
 
-    ghost Value = { constructs.Making };
+    ghost Value = { holders.HeldMaking };
 
-    ghost view = { λ m. making m.matched.now.uses m.makes.now };
+    ghost view = { λ m. record { names = m.matched.now.names; all = making m.matched.now.uses m.makes.now.all } };
 
     ghost invariant = { λ m. m.makes.now.names ≡ m.matched.now.names };
 }
@@ -34,14 +34,14 @@ impl<'a, 'n> Model for Making<'a, 'n> {
 impl<'a, 'n> Making<'a, 'n> {
     /// Whether a variable is one of the MATCH.
     pub fn is_matched(&self, name: Sym) -> bool
-        ensures { result ≡ has_use self.now.matched (name_of self.now.names name) }
+        ensures { result ≡ has_use self.now.all.matched (name_of self.now.names name) }
     {
         self.matched.has(name)
     }
 
     /// Whether a name is a node, an edge or a stored path of the CONSTRUCT.
     pub fn is_target(&self, name: Sym) -> bool
-        ensures { result ≡ (has_use self.now.made (name_of self.now.names name) || has_name self.now.stored (name_of self.now.names name)) }
+        ensures { result ≡ (has_use self.now.all.made (name_of self.now.names name) || has_name self.now.all.stored (name_of self.now.names name)) }
     {
         let makes = self.makes;
         makes.made.has(name) || makes.stored.has(name)
@@ -49,7 +49,7 @@ impl<'a, 'n> Making<'a, 'n> {
 
     /// Whether the first place of an element is another one.
     pub fn is_made_before(&self, name: Sym, token: u32) -> bool
-        ensures { result ≡ is_later (first_use self.now.made (name_of self.now.names name)) token }
+        ensures { result ≡ is_later (first_use self.now.all.made (name_of self.now.names name)) token }
     {
         let makes = self.makes;
         is_later(makes.made.first(name), token)
@@ -57,7 +57,7 @@ impl<'a, 'n> Making<'a, 'n> {
 
     /// Whether the first GROUP of an element is another one.
     pub fn is_grouped_before(&self, name: Sym, token: u32) -> bool
-        ensures { result ≡ is_later (first_use self.now.groups (name_of self.now.names name)) token }
+        ensures { result ≡ is_later (first_use self.now.all.groups (name_of self.now.names name)) token }
     {
         let makes = self.makes;
         is_later(makes.groups.first(name), token)
@@ -65,7 +65,7 @@ impl<'a, 'n> Making<'a, 'n> {
 
     /// Whether the first `=` of an element is another one.
     pub fn is_copied_before(&self, name: Sym, token: u32) -> bool
-        ensures { result ≡ is_later (first_use self.now.copies (name_of self.now.names name)) token }
+        ensures { result ≡ is_later (first_use self.now.all.copies (name_of self.now.names name)) token }
     {
         let makes = self.makes;
         is_later(makes.copies.first(name), token)
@@ -73,20 +73,20 @@ impl<'a, 'n> Making<'a, 'n> {
 
     /// Where what is given stands.
     pub fn given(&self) -> Place<'a, 'n>
-        ensures { result ≡ given self.now }
+        ensures { result ≡ record { names = self.now.names; at = given self.now.all } }
     {
         self.place(false)
     }
 
     /// Where a WHEN stands.
     pub fn when(&self) -> Place<'a, 'n>
-        ensures { result ≡ when_ self.now }
+        ensures { result ≡ record { names = self.now.names; at = when_ self.now.all } }
     {
         self.place(true)
     }
 
     fn place(&self, is_when: bool) -> Place<'a, 'n>
-        ensures { result ≡ (if is_when then when_ self.now else given self.now) }
+        ensures { result ≡ record { names = self.now.names; at = (if is_when then when_ self.now.all else given self.now.all) } }
     {
         let makes = self.makes;
         Place {

@@ -25,11 +25,11 @@ pub(crate) struct Place<'a, 'n> {
 
 impl<'a, 'n> Model for Place<'a, 'n> {
     ghost use Rattle.std.specs.Prelude.{◌≡◌, ◌++◌, [], if◌then◌else◌};
-    ghost use Rattle.gc_sorts.specs.Expressions as expressions;
+    ghost use Rattle.gc_sorts.specs.Holders as holders;
 
-    ghost Value = { expressions.Standing };
+    ghost Value = { holders.HeldPlace };
 
-    ghost view = { λ p. record { names = p.variables.now.names; uses = (if p.is_when then p.variables.now.uses ++ p.made.now.uses else p.variables.now.uses); stored = (if p.is_when then p.stored.now.order else []); exists = p.exists.now } };
+    ghost view = { λ p. record { names = p.variables.now.names; at = record { uses = (if p.is_when then p.variables.now.uses ++ p.made.now.uses else p.variables.now.uses); stored = (if p.is_when then p.stored.now.order else []); exists = p.exists.now } } };
 
     ghost invariant = { λ p. (p.made.now.names ≡ p.variables.now.names) × (p.stored.now.names ≡ p.variables.now.names) };
 }
@@ -37,7 +37,7 @@ impl<'a, 'n> Model for Place<'a, 'n> {
 impl<'a, 'n> Place<'a, 'n> {
     /// What is known of a name there.
     pub fn form_of(&self, name: Sym) -> Form
-        ensures { result ≡ name_form self.now (name_of self.now.names name) }
+        ensures { result ≡ name_form self.now.at (name_of self.now.names name) }
     {
         let is_stored = self.stores(name);
         match self.first(name) {
@@ -48,7 +48,7 @@ impl<'a, 'n> Place<'a, 'n> {
 
     // The first place of a variable that is in scope.
     fn first(&self, name: Sym) -> Option<UseAt>
-        ensures { option_map (use_by self.now.names) result ≡ first_use self.now.uses (name_of self.now.names name) }
+        ensures { option_map (use_by self.now.names) result ≡ first_use self.now.at.uses (name_of self.now.names name) }
     {
         match self.variables.first(name) {
             Some(first) => Some(first),
@@ -64,14 +64,14 @@ impl<'a, 'n> Place<'a, 'n> {
 
     // Whether a name is a path that the CONSTRUCT stores.
     fn stores(&self, name: Sym) -> bool
-        ensures { result ≡ has_name self.now.stored (name_of self.now.names name) }
+        ensures { result ≡ has_name self.now.at.stored (name_of self.now.names name) }
     {
         self.is_when && self.stored.has(name)
     }
 
     /// Whether the EXISTS of a number may stand there.
     pub fn may_ask(&self, number: u32) -> bool
-        ensures { result ≡ may_ask self.now number }
+        ensures { result ≡ may_ask self.now.at number }
     {
         match self.exists.get(number as usize) {
             Some(may) => *may,

@@ -10,5 +10,5 @@ use Rattle.gc_sorts.proofs.constructs.items.Given as goal
 
 abbrev pub invariant-loop-one : goal.invariant-loop-one
 invariant-loop-one l =
-    first_among l.found (each (item_breaches (known l.graphs) l.making) (row (map (item_tree l.making.names) (drop l.one-index l.one-items))))
-    ≡ first_among l.initial.found (each (item_breaches (known l.graphs) l.making) (row (map (item_tree l.making.names) l.one-items)))
+    first_among l.found (each (item_breaches (known l.graphs) l.making.all) (row (map (item_tree l.making.names) (drop l.one-index l.one-items))))
+    ≡ first_among l.initial.found (each (item_breaches (known l.graphs) l.making.all) (row (map (item_tree l.making.names) l.one-items)))

@@ -7,7 +7,7 @@ use Rattle.gc_sorts.proofs.constructs.part.Goals as goal
 
 pub returns-in-Stored : goal.returns-in-Stored
 returns-in-Stored c =
-    let m = c.args.making.now in
+    let m = c.args.making.now.all in
     c.stored.ensures
     ∙ sym (ap (λ t. first_among c.args.found (part_breaches m t))
-    (ap (part_tree m.names) c.in-Stored.is ∙ stored_tree m.names c.in-Stored.token c.in-Stored.name c.in-Stored.labels c.in-Stored.given))
+    (ap (part_tree c.args.making.now.names) c.in-Stored.is ∙ stored_tree c.args.making.now.names c.in-Stored.token c.in-Stored.name c.in-Stored.labels c.in-Stored.given))

@@ -10,5 +10,5 @@ use Rattle.gc_sorts.proofs.constructs.terms.Given as goal
 
 abbrev pub invariant-loop-one : goal.invariant-loop-one
 invariant-loop-one l =
-    first_among l.found (each (term_breaches l.making) (row (map (group_term_tree l.making.names) (drop l.one-index l.one-items))))
-    ≡ first_among l.initial.found (each (term_breaches l.making) (row (map (group_term_tree l.making.names) l.one-items)))
+    first_among l.found (each (term_breaches l.making.all) (row (map (group_term_tree l.making.names) (drop l.one-index l.one-items))))
+    ≡ first_among l.initial.found (each (term_breaches l.making.all) (row (map (group_term_tree l.making.names) l.one-items)))
