@@ -2,12 +2,15 @@
 -- a new edge has a direction.
 use Rattle.std.specs.Prelude.{ℕ, ◌+◌, List, [], ◌∷◌, ◌++◌, Bool, true, false, not, ◌&&◌, ◌||◌, Option, Some, None, if◌then◌else◌}
 use Rattle.std.specs.List.{list_any}
+use Rattle.std.specs.Option.{option_map}
 use Rattle.gc_base.specs.declared.place.Direction.{Direction}
 use Rattle.gc_base.specs.declared.place.Direction.TheVariants.{Forward, Backward, Either}
+use Rattle.gc_expr.specs.Views.{Names, name_of}
 use Rattle.gc_ast.specs.Names.{same_name}
 use Rattle.gc_ast.specs.Trees as tree
 use Rattle.gc_ast.specs.Trees.{Tree, Named, RowOf, ABlock, AnOptional, ALocated, APattern, AnElement, APathBody, AnItem, AConstructPart, ANewElement}
 use Rattle.gc_sorts.specs.declared.breach.SortRule.TheVariants.{LooseEdge}
+use Rattle.gc_sorts.specs.declared.link.LinkAt.{LinkAt}
 use Rattle.gc_sorts.specs.Breaches.{Breaches, none, both, broken_if}
 use Rattle.gc_sorts.specs.Patterns.{each}
 use Rattle.gc_sorts.specs.Uses.{all_of, block_uses}
@@ -19,6 +22,11 @@ pub record Link : Type 0 where
   pub left : Option (List ℕ)
   pub right : Option (List ℕ)
   pub way : Direction
+
+-- a link with the bytes of its names
+abbrev pub link_by : Names → LinkAt → Link
+link_by names l =
+    record { name = name_of names l.name; left = option_map (name_of names) l.left; right = option_map (name_of names) l.right; way = l.way }
 
 -- an arrow from the other side
 abbrev pub turned : Direction → Direction

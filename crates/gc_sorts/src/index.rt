@@ -60,6 +60,13 @@ impl<'a> Index<'a> {
         slot(self.names, sym)
     }
 
+    /// Whether two numbers stand for one name.
+    pub fn same(&self, a: Sym, b: Sym) -> bool
+        ensures { result ≡ same_name (name_of self.now.names a) (name_of self.now.names b) }
+    {
+        slot(self.names, a) == slot(self.names, b)
+    }
+
     /// How many names came.
     pub fn len(&self) -> usize
         ensures { result ≡ length self.now.order }

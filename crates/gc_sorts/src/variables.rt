@@ -1,6 +1,7 @@
 ghost use Rattle.std.specs.Prelude.{◌≡◌, ◌++◌, ◌∷◌, [], ◌≤◌, length, map, drop, take, IfOk, OnOk};
 ghost use Rattle.std.specs.Option.{option_map};
 ghost use Rattle.gc_expr.specs.Views.{name_of};
+ghost use Rattle.gc_ast.specs.Names.{same_name};
 ghost use Rattle.gc_sorts.specs.Orders.{first_place};
 ghost use Rattle.gc_sorts.specs.Variables.{use_by, use_names, first_use, has_use};
 
@@ -48,6 +49,13 @@ impl<'a> Variables<'a> {
         ensures { result ≡ length self.now.uses }
     {
         self.uses.len()
+    }
+
+    /// Whether two numbers stand for one name.
+    pub fn same(&self, a: Sym, b: Sym) -> bool
+        ensures { result ≡ same_name (name_of self.now.names a) (name_of self.now.names b) }
+    {
+        self.first.same(a, b)
     }
 
     /// Whether a variable is in scope.
