@@ -5,3 +5,4 @@ pub mod LoadedSlots
 pub mod Rows
 pub mod UsePlaces
 pub mod ConstructTrees
+pub mod OptionalTokens

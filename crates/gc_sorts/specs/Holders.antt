@@ -2,6 +2,7 @@
 use Rattle.gc_expr.specs.Views.{Names}
 use Rattle.gc_sorts.specs.Constructs.{Made, Making}
 use Rattle.gc_sorts.specs.Expressions.{Standing}
+use Rattle.gc_sorts.specs.SortRules.{Sights}
 
 -- where an expression stands
 pub record HeldPlace : Type 0 where
@@ -17,3 +18,8 @@ pub record HeldMade : Type 0 where
 pub record HeldMaking : Type 0 where
   pub names : Names
   pub all : Making
+
+-- what is in scope
+pub record HeldSights : Type 0 where
+  pub names : Names
+  pub at : Sights

@@ -13,7 +13,7 @@ use Rattle.gc_sorts.specs.declared.breach.SortRule.TheVariants.{LooseEdge}
 use Rattle.gc_sorts.specs.declared.link.LinkAt.{LinkAt}
 use Rattle.gc_sorts.specs.Breaches.{Breaches, none, both, broken_if}
 use Rattle.gc_sorts.specs.Patterns.{each}
-use Rattle.gc_sorts.specs.Uses.{all_of, block_uses}
+use Rattle.gc_sorts.specs.Uses.{all_of, optional_uses}
 use Rattle.gc_sorts.specs.Variables.{Use, has_use}
 
 -- a link of a named variable between its neighbours, which may have no name
@@ -101,10 +101,12 @@ abbrev pub block_links : List Use → Tree ABlock → List Link
 block_links before (tree.Block patterns filter) = all_of (located_links before) patterns
 
 -- those of OPTIONAL blocks behind some places
+abbrev pub links_in : List Use → Tree AnOptional → List Link
+links_in before (tree.Optional token block) = block_links before block
+
 abbrev pub optional_links : List Use → Tree (RowOf AnOptional) → List Link
 optional_links before tree.none = []
-optional_links before (tree.more (tree.Optional token block) os) =
-    block_links before block ++ optional_links (before ++ block_uses block) os
+optional_links before (tree.more o os) = links_in before o ++ optional_links (before ++ optional_uses o) os
 
 -- the name of a node of a construct chain, and of one at the front of its parts
 abbrev pub new_name : Tree ANewElement → Option (List ℕ)

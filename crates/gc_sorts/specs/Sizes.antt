@@ -61,6 +61,15 @@ broken_at_if (Some token) = broken TooLarge token
 abbrev pub too_many : List ℕ → Breaches
 too_many tokens = broken_at_if (slice_get tokens 100)
 
+-- the first of some tokens
+abbrev pub first_of : List ℕ → Option ℕ
+first_of [] = None
+first_of (token ∷ tokens) = Some token
+
 -- the tokens of OPTIONAL blocks
-abbrev pub optional_tokens : Tree AnOptional → List ℕ
-optional_tokens (tree.Optional token block) = token ∷ []
+abbrev pub optional_token : Tree AnOptional → ℕ
+optional_token (tree.Optional token block) = token
+
+abbrev pub optional_tokens : Tree (RowOf AnOptional) → List ℕ
+optional_tokens tree.none = []
+optional_tokens (tree.more o os) = optional_token o ∷ optional_tokens os

@@ -16,16 +16,22 @@ use Rattle.gc_sorts.specs.Sizes.{too_many, optional_tokens}
 use Rattle.gc_sorts.specs.Uses.{all_of, block_uses, optional_uses, located_uses, pattern_uses}
 use Rattle.gc_sorts.specs.Variables.{Use}
 
--- what is in scope: the graphs that are known, the views, and the variables that an EXISTS sees
+-- what is in scope: the graphs of the session and those that the file has declared, the views, and the
+-- variables that an EXISTS sees
 pub record Sights : Type 0 where
-  pub graphs : List (List ℕ)
+  pub loaded : List (List ℕ)
+  pub declared : List (List ℕ)
   pub views : List (List ℕ)
   pub uses : List Use
 
+-- the graphs that are known
+abbrev pub graphs_in : Sights → List (List ℕ)
+graphs_in s = s.loaded ++ s.declared
+
 -- what is in scope behind a tree: a head and a statement may declare a graph or a view
 abbrev pub behind : {k : Kind} → Sights → Tree k → Sights
-behind s (tree.View g query) = record s { graphs = s.graphs ++ g.name ∷ [] }
-behind s (tree.GraphHead g query) = record s { graphs = s.graphs ++ g.name ∷ [] }
+behind s (tree.View g query) = record s { declared = s.declared ++ g.name ∷ [] }
+behind s (tree.GraphHead g query) = record s { declared = s.declared ++ g.name ∷ [] }
 behind s (tree.PathHead v chains filter cost) = record s { views = s.views ++ v.name ∷ [] }
 behind s tree = s
 
@@ -60,43 +66,47 @@ where_ uses queries = record { uses = uses; stored = []; exists = are_existence 
 abbrev pub in_view : List Use → Standing
 in_view uses = record { uses = uses; stored = []; exists = [] }
 
--- a view: its name, its chains, the places in them, its condition and its cost
-abbrev pub view_uses : Tree (RowOf (RowOf APattern)) → List Use
-view_uses chains = all_of (all_of pattern_uses) chains
+-- the places in the chains of a view, behind those that are seen
+abbrev pub view_uses : Sights → Tree (RowOf (RowOf APattern)) → List Use
+view_uses s chains = s.uses ++ all_of (all_of pattern_uses) chains
 
 -- what a head that declares a view breaks
 abbrev pub view_breaches : Sights → tree.Named → Tree (RowOf (RowOf APattern)) → Tree (RowOf AFormula) → Tree (RowOf AFormula) → Breaches
 view_breaches s v chains filter cost =
     both (taken s.views v)
     (both (chains_breaches s.views v chains)
-    (both (each_use (place_breaches (view_uses chains)) (view_uses chains))
-    (both (each (formula_breaches (in_view (view_uses chains)) false takes.Condition) filter)
-    (each (formula_breaches (in_view (view_uses chains)) false takes.Value) cost))))
+    (both (each_use (place_breaches (view_uses s chains)) (all_of (all_of pattern_uses) chains))
+    (both (each (formula_breaches (in_view (view_uses s chains)) false takes.Condition) filter)
+    (each (formula_breaches (in_view (view_uses s chains)) false takes.Value) cost))))
 
 -- the places of a MATCH and its OPTIONAL blocks, behind those that it sees
-abbrev pub match_uses : Sights → Tree ABlock → Tree (RowOf AnOptional) → List Use
-match_uses s main optionals = (s.uses ++ block_uses main) ++ all_of optional_uses optionals
+abbrev pub match_uses : List Use → Tree ABlock → Tree (RowOf AnOptional) → List Use
+match_uses seen main optionals = (seen ++ block_uses main) ++ all_of optional_uses optionals
 
 -- the links of the block of each variable's first place
-abbrev pub match_links : Sights → Tree ABlock → Tree (RowOf AnOptional) → List Link
-match_links s main optionals = block_links s.uses main ++ optional_links (s.uses ++ block_uses main) optionals
+abbrev pub match_links : List Use → Tree ABlock → Tree (RowOf AnOptional) → List Link
+match_links seen main optionals = block_links seen main ++ optional_links (seen ++ block_uses main) optionals
 
 -- what a CONSTRUCT names
 abbrev pub made_by : Tree (RowOf AnItem) → Made
 made_by items = with_items nothing_made items
 
+-- what items break beside the places and the links of the MATCH
+abbrev pub items_breaches : (graphs : List (List ℕ)) → List Use → List Link → Tree (RowOf AnItem) → Breaches
+items_breaches graphs uses links items =
+    both (each (item_breaches graphs (making uses (made_by items))) items) (each (loose_item uses links) items)
+
 -- what the items of a CONSTRUCT break
-abbrev pub construct_breaches : Sights → Tree (RowOf AnItem) → Tree ABlock → Tree (RowOf AnOptional) → Breaches
-construct_breaches s items main optionals =
-    both (each (item_breaches s.graphs (making (match_uses s main optionals) (made_by items))) items)
-    (each (loose_item (match_uses s main optionals) (match_links s main optionals)) items)
+abbrev pub construct_breaches : (graphs : List (List ℕ)) → (seen : List Use) → Tree (RowOf AnItem) → Tree ABlock → Tree (RowOf AnOptional) → Breaches
+construct_breaches graphs seen items main optionals =
+    items_breaches graphs (match_uses seen main optionals) (match_links seen main optionals) items
 
 -- what the places of a MATCH and its OPTIONAL blocks break
-abbrev pub match_breaches : Sights → Tree ABlock → Tree (RowOf AnOptional) → Breaches
-match_breaches s main optionals =
-    both (shared_breaches (length (s.uses ++ block_uses main)) (s.uses ++ block_uses main) optionals)
-    (both (each_use (place_breaches (match_uses s main optionals)) (block_uses main ++ all_of optional_uses optionals))
-    (too_many (all_of optional_tokens optionals)))
+abbrev pub match_breaches : (seen : List Use) → Tree ABlock → Tree (RowOf AnOptional) → Breaches
+match_breaches seen main optionals =
+    both (shared_breaches (length (seen ++ block_uses main)) (seen ++ block_uses main) optionals)
+    (both (each_use (place_breaches (match_uses seen main optionals)) (block_uses main ++ all_of optional_uses optionals))
+    (too_many (optional_tokens optionals)))
 
 -- the places that the WHERE of a block sees
 abbrev pub seen_in : Sights → Tree (RowOf ALocated) → List Use
@@ -104,22 +114,22 @@ seen_in s patterns = s.uses ++ all_of located_uses patterns
 
 -- what a tree breaks with what is in scope
 unfoldable pub breaches : {k : Kind} → Sights → Tree k → Breaches
-breaches s (tree.View g query) = both (taken s.graphs g) (breaches s query)
+breaches s (tree.View g query) = both (taken (graphs_in s) g) (breaches s query)
 breaches s (tree.Ask query) = breaches s query
 breaches s (tree.Query heads first rest) =
     both (breaches s heads) (both (breaches (behind_all s heads) first) (breaches (behind_all s heads) rest))
 breaches s (tree.NextTerm op term) = breaches s term
 breaches s (tree.BasicTerm basic) = breaches s basic
-breaches s (tree.GraphTerm g) = unknown_graph s.graphs g
+breaches s (tree.GraphTerm g) = unknown_graph (graphs_in s) g
 breaches s (tree.QueryTerm query) = breaches s query
 breaches s (tree.PathHead v chains filter cost) = view_breaches s v chains filter cost
-breaches s (tree.GraphHead g query) = both (taken s.graphs g) (breaches s query)
+breaches s (tree.GraphHead g query) = both (taken (graphs_in s) g) (breaches s query)
 breaches s (tree.Basic token items main optionals) =
-    both (match_breaches s main optionals)
-    (both (construct_breaches s items main optionals)
+    both (match_breaches s.uses main optionals)
+    (both (construct_breaches (graphs_in s) s.uses items main optionals)
     (both (breaches s main) (breaches s optionals)))
 breaches s (tree.Block patterns filter) =
-    both (patterns_breaches s.graphs s.views patterns) (breaches (record s { uses = seen_in s patterns }) filter)
+    both (patterns_breaches (graphs_in s) s.views patterns) (breaches (record s { uses = seen_in s patterns }) filter)
 breaches s (tree.Optional token block) = breaches s block
 breaches s (tree.Formula e queries) =
     both (expression_breaches (where_ s.uses queries) false takes.Condition 0 e) (breaches s queries)
@@ -130,4 +140,4 @@ breaches s tree = none
 -- the first breach of the statements of a file over graphs of these names
 abbrev pub first_breach : List (List ℕ) → Tree (RowOf AStatement) → Option Breach
 first_breach graphs statements =
-    first_among None (breaches (record { graphs = graphs; views = []; uses = [] }) statements)
+    first_among None (breaches (record { loaded = graphs; declared = []; views = []; uses = [] }) statements)

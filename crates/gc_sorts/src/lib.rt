@@ -3,6 +3,7 @@
 //! This crate knows of no token list, no text and no graph, only of the names that graphs have.
 #![tactic(auto)]
 
+mod basics;
 mod breach;
 mod constructs;
 mod expressions;

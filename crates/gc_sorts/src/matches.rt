@@ -3,12 +3,15 @@ ghost use Rattle.std.specs.Option.{option_map};
 ghost use Rattle.gc_ast.specs.QueryViews.{optional_tree};
 ghost use Rattle.gc_ast.specs.Trees.{row};
 ghost use Rattle.gc_sorts.specs.Breaches.{first_among};
+ghost use Rattle.gc_sorts.specs.Links.{link_by, optional_links};
 ghost use Rattle.gc_sorts.specs.Matches.{same_sort, stands_once, later_place, place_breaches, each_use, is_between, shared_place, shared_breaches};
 ghost use Rattle.gc_sorts.specs.Uses.{all_of, optional_uses};
 ghost use Rattle.gc_sorts.specs.Variables.{use_by, is_property, cost_names, has_cost};
 
 use crate::breach::{Breach, SortRule, noted, noted_if};
 use crate::index::Index;
+use crate::link::LinkAt;
+use crate::match_links::add_links;
 use crate::sort::{Role, UseAt};
 use crate::uses::add_block;
 use crate::variables::Variables;
@@ -131,37 +134,44 @@ fn shared_places(
     found
 }
 
-// Adds the places of an OPTIONAL block, and gives the first breach of those so far and of these.
+// Adds the links and the places of an OPTIONAL block, and gives the first breach of those so far and of
+// these.
 #[tactic(auto, unfolding(gc_ast::specs::QueryViews::optional_by, gc_ast::specs::QueryViews::block_by))]
 fn add_shared(
     found: Option<Breach>,
     variables: &mut Variables,
+    links: &mut Vec<LinkAt>,
     mandatory: usize,
     optional: &OptionalBlock,
 ) -> Result<Option<Breach>, Memory>
     ensures names { variables.new.names ≡ variables.old.names }
     ensures uses { OnOk result (variables.new.uses ≡ variables.old.uses ++ optional_uses (optional_tree variables.old.names optional.now)) }
+    ensures links { OnOk result (map (link_by variables.old.names) links.new.items ≡ map (link_by variables.old.names) links.old.items ++ optional_links variables.old.uses (row (optional_tree variables.old.names optional.now ∷ []))) }
     ensures found { IfOk result (λ first. first ≡ first_among found (shared_breaches mandatory variables.old.uses (row (optional_tree variables.old.names optional.now ∷ [])))) }
 {
     let from = variables.len();
+    add_links(links, variables, &optional.block)?;
     add_block(variables, &optional.block)?;
     Ok(shared_places(found, variables, mandatory, from))
 }
 
-/// Adds the places of OPTIONAL blocks, and gives the first breach of those so far and of these.
+/// Adds the links and the places of OPTIONAL blocks, and gives the first breach of those so far and of
+/// these.
 pub(crate) fn add_optionals(
     found: Option<Breach>,
     variables: &mut Variables,
+    links: &mut Vec<LinkAt>,
     optionals: &OptionalList,
 ) -> Result<Option<Breach>, Memory>
     ensures names { variables.new.names ≡ variables.old.names }
     ensures uses { OnOk result (variables.new.uses ≡ variables.old.uses ++ all_of optional_uses (row (map (optional_tree variables.old.names) optionals.now.items))) }
+    ensures links { OnOk result (map (link_by variables.old.names) links.new.items ≡ map (link_by variables.old.names) links.old.items ++ optional_links variables.old.uses (row (map (optional_tree variables.old.names) optionals.now.items))) }
     ensures found { IfOk result (λ first. first ≡ first_among found (shared_breaches (length variables.old.uses) variables.old.uses (row (map (optional_tree variables.old.names) optionals.now.items)))) }
 {
     let mandatory = variables.len();
     let mut found = found;
     for optional in optionals {
-        found = add_shared(found, variables, mandatory, optional)?;
+        found = add_shared(found, variables, links, mandatory, optional)?;
     }
     Ok(found)
 }
