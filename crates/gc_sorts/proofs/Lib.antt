@@ -6,3 +6,6 @@ pub mod Rows
 pub mod UsePlaces
 pub mod ConstructTrees
 pub mod OptionalTokens
+pub mod Chains
+pub mod RuleRows
+pub mod RuleTrees

@@ -1,5 +1,5 @@
 -- The slots of names that a table has, and those of names that it lacks.
-use Rattle.std.proofs.Common.{◌≡◌, ◌≢◌, ◌<◌, ◌≤◌, ◌+◌, ℕ, Bool, true, false, ◌||◌, List, [], ◌∷◌, Option, Some, None, length, min, get_or, slice_get, slice_set, refl, sym, ap, subst, ◌∙◌, arith, inl, inr, ◌⊎◌, nat_eq}
+use Rattle.std.proofs.Common.{◌≡◌, ◌<◌, ◌+◌, ℕ, Bool, true, false, ◌||◌, List, [], Some, length, get_or, slice_set, refl, sym, ap, ◌∙◌, arith, inl, inr, nat_eq}
 use Rattle.std.specs.List.{IsDistinct, list_all, list_any}
 use Rattle.std.specs.Cmp.Lexicographic.{bytes_decides}
 use Rattle.std.proofs.lemmas.Bool.Decides.{eqb_tells}
@@ -30,20 +30,21 @@ pub slot_noted : (names : Names) → IsDistinct same_name names → list_all is_
 slot_noted names distinct words slots room name a number s =
     let inside : a.0 < length names = (position-Some (same_name name) names a.0 [] (sym number)).0 in
     elim (eqb_tells (slot (length names) s) a.0) [
-      inl h ↦
-        ap (λ k. get_or (slice_set slots a.0 true) k false) h.1 ∙ get_or-set_same slots a.0 true false (omega (arith, inside, room))
-        ∙ sym (ap (λ b. get_or slots (slot (length names) s) false || b) (same_number names distinct words name a s (sym number) ∙ h.0) ∙ or_true (get_or slots (slot (length names) s) false))
-    | inr h ↦
-        get_or-set_other slots a.0 (slot (length names) s) true false h.1
-        ∙ sym (ap (λ b. get_or slots (slot (length names) s) false || b) (same_number names distinct words name a s (sym number) ∙ h.0) ∙ or_false (get_or slots (slot (length names) s) false))
+      | inl h ↦
+          ap (λ k. get_or (slice_set slots a.0 true) k false) h.1 ∙ get_or-set_same slots a.0 true false (omega (arith, inside, room))
+          ∙ sym (ap (λ b. get_or slots (slot (length names) s) false || b) (same_number names distinct words name a s (sym number) ∙ h.0) ∙ or_true (get_or slots (slot (length names) s) false))
+      | inr h ↦
+          get_or-set_other slots a.0 (slot (length names) s) true false h.1
+          ∙ sym (ap (λ b. get_or slots (slot (length names) s) false || b) (same_number names distinct words name a s (sym number) ∙ h.0) ∙ or_false (get_or slots (slot (length names) s) false))
     ]
   where
-  or_true : (b : Bool) → (b || true) ≡ true
-  or_true true = refl
-  or_true false = refl
-  or_false : (b : Bool) → (b || false) ≡ b
-  or_false true = refl
-  or_false false = refl
+    or_true : (b : Bool) → (b || true) ≡ true
+    or_true true = refl
+    or_true false = refl
+
+    or_false : (b : Bool) → (b || false) ≡ b
+    or_false true = refl
+    or_false false = refl
 
 -- no number stands for a name that the table lacks
 stranger_at : (names : Names) (name : List ℕ) → is_word name ≡ true → false ≡ list_any (same_name name) names
@@ -51,8 +52,8 @@ stranger_at : (names : Names) (name : List ℕ) → is_word name ≡ true → fa
 unfolding Stands
 stranger_at names name word absent s same =
     elim (stands names s) [
-      inl h ↦ let e = list_any_at (same_name name) names s.0 [] h.0 ((bytes_decides name (get_or names s.0 [])).1 (sym same ∙ h.1)) in cc
-    | inr h ↦ no_empty_word name word (sym same ∙ h.1)
+      | inl h ↦ let e = list_any_at (same_name name) names s.0 [] h.0 ((bytes_decides name (get_or names s.0 [])).1 (sym same ∙ h.1)) in cc
+      | inr h ↦ no_empty_word name word (sym same ∙ h.1)
     ]
 
 -- a name that the table lacks has no number
@@ -61,11 +62,13 @@ pub none_noted : (names : Names) → list_all is_word names ≡ true → (name :
 none_noted names words name word absent s b =
     sym (ap (λ other. b || other) (false_unless (same_name (name_of names s) name) stranger) ∙ or_false b)
   where
-  false_unless : (b : Bool) → (b ≡ true → ⊥) → b ≡ false
-  false_unless true h = absurd (h refl)
-  false_unless false h = refl
-  or_false : (b : Bool) → (b || false) ≡ b
-  or_false true = refl
-  or_false false = refl
-  stranger : same_name (name_of names s) name ≡ true → ⊥
-  stranger h = stranger_at names name word absent s ((bytes_decides (name_of names s) name).0 h)
+    false_unless : (b : Bool) → (b ≡ true → ⊥) → b ≡ false
+    false_unless true h = absurd (h refl)
+    false_unless false h = refl
+
+    or_false : (b : Bool) → (b || false) ≡ b
+    or_false true = refl
+    or_false false = refl
+
+    stranger : same_name (name_of names s) name ≡ true → ⊥
+    stranger h = stranger_at names name word absent s ((bytes_decides (name_of names s) name).0 h)

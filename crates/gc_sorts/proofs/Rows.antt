@@ -1,14 +1,16 @@
 -- Steps and ends of loops over the trees of a list.
-use Rattle.std.proofs.Common.{◌≡◌, ◌<◌, ◌≤◌, ◌+◌, ℕ, suc, List, [], ◌∷◌, ◌++◌, Option, length, map, take, drop, get_or, refl, sym, ap, subst, ◌∙◌, arith, add-one, append_assoc, drop-cons}
+use Rattle.std.proofs.Common.{◌≡◌, nat_eq, Bool, inl, inr, false, ◌<◌, ◌≤◌, ◌+◌, ℕ, suc, List, [], ◌∷◌, ◌++◌, Option, length, map, drop, get_or, refl, sym, ap, ◌∙◌, arith, add-one, append_assoc, drop-cons}
 use Rattle.std.proofs.lemmas.List.{drop_all, append-nil}
-use Rattle.gc_ast.specs.Trees.{Kind, TreeOf, RowOf, row, more}
+use Rattle.gc_ast.specs.Trees.{Kind, TreeOf, Tree, row, more}
 use Rattle.gc_sorts.specs.declared.breach.Breach.{Breach}
 use Rattle.gc_sorts.specs.Breaches.{Breaches, first_among}
 use Rattle.gc_sorts.specs.Patterns.{each}
+use Rattle.std.proofs.lemmas.Bool.Decides.{eqb_tells}
+use Rattle.gc_sorts.specs.SortRules.{is_none, is_empty, is_only}
 use Rattle.gc_sorts.specs.Uses.{all_of}
 
 -- what is left of a list from an item on
-left_from : {A : Type 0} (xs : List A) (i : ℕ) (x : A) → i < length xs → x ≡ get_or xs i x → drop i xs ≡ x ∷ drop (i + 1) xs
+pub left_from : {A : Type 0} (xs : List A) (i : ℕ) (x : A) → i < length xs → x ≡ get_or xs i x → drop i xs ≡ x ∷ drop (i + 1) xs
 left_from xs i x inside read =
     drop-cons xs i x inside ∙ ap (λ y. y ∷ drop (suc i) xs) (sym read) ∙ ap (λ n. x ∷ drop n xs) (sym (add-one i))
 
@@ -42,3 +44,29 @@ pub all_of_end : {A B N : Type 0} {k : Kind} (f : TreeOf N k → List B) (view :
     → before ++ all_of f (row (map view (drop i xs))) ≡ total → before ≡ total
 all_of_end f view xs i done before total so_far =
     sym (append-nil before) ∙ sym (ap (λ rest. before ++ all_of f (row (map view rest))) (drop_all i xs done)) ∙ so_far
+
+not_zero : (n : ℕ) → nat_eq (suc n) 0 ≡ false
+not_zero n = elim (eqb_tells (suc n) 0) [ inl h ↦ absurd (omega (arith, h.1)) | inr h ↦ h.0 ]
+
+-- a row has no tree exactly where its list has no item
+pub is_none_row : {A : Type 0} {k : Kind} (view : A → Tree k) (xs : List A) → is_none (row (map view xs)) ≡ nat_eq (length xs) 0
+is_none_row view [] = refl
+is_none_row view (x ∷ xs) = sym (not_zero (length xs))
+
+-- the same of a list
+pub is_empty_list : {A : Type 0} (xs : List A) → is_empty xs ≡ nat_eq (length xs) 0
+is_empty_list [] = refl
+is_empty_list (x ∷ xs) = sym (not_zero (length xs))
+
+-- the only tree of a row
+pub is_only_row : {A : Type 0} {k : Kind} (test : Tree k → Bool) (view : A → Tree k) (xs : List A) (x : A) → length xs ≡ 1 → x ≡ get_or xs 0 x
+    → is_only test (row (map view xs)) ≡ test (view x)
+is_only_row test view [] x one read = absurd (omega (arith, one))
+is_only_row test view (y ∷ []) x one read = ap (λ z. test (view z)) (sym read)
+is_only_row test view (y ∷ (z ∷ zs)) x one read = absurd (omega (arith, one))
+
+pub not_only_row : {A : Type 0} {k : Kind} (test : Tree k → Bool) (view : A → Tree k) (xs : List A) → (length xs ≡ 1 → ⊥)
+    → is_only test (row (map view xs)) ≡ false
+not_only_row test view [] other = refl
+not_only_row test view (y ∷ []) other = absurd (other refl)
+not_only_row test view (y ∷ (z ∷ zs)) other = refl

@@ -1,14 +1,15 @@
 -- Places of variables by the places of their names.
-use Rattle.std.proofs.Common.{◌≡◌, ◌<◌, ◌≤◌, ◌+◌, ℕ, Bool, true, false, not, cond, if◌then◌else◌, ◌||◌, ◌-◌, List, [], ◌∷◌, ◌++◌, Option, Some, None, length, map, take, drop, refl, sym, ap, ◌∙◌, arith, is_some, slice_get, get_or, nat_lt}
-use Rattle.std.specs.List.{find, filter, position, position_or_len, prefix_len, list_any}
+use Rattle.std.proofs.Common.{◌≡◌, ◌<◌, ◌≤◌, ℕ, Bool, true, false, cond, if◌then◌else◌, ◌||◌, ◌-◌, List, [], ◌∷◌, ◌++◌, Some, None, length, map, take, drop, refl, sym, ap, ◌∙◌, arith, is_some, slice_get, get_or, nat_lt}
+use Rattle.std.specs.List.{filter, position, position_or_len}
 use Rattle.std.specs.Option.{option_map, option_or}
 use Rattle.std.proofs.lemmas.List.{length-map, take-map, length-drop, drop-map, drop_all, take_all, append-nil, map-append, take-append-drop}
+use Rattle.std.proofs.Math.Seq.{take-append_seam}
 use Rattle.std.proofs.lemmas.List.Elements.{filter-append}
 use Rattle.std.proofs.lemmas.List.Folds.{find_at, find-append}
 use Rattle.std.proofs.lemmas.List.Quantifiers.{position-Some}
 use Rattle.std.proofs.lemmas.Option.{slice_get_read, slice_get_past, same_Some, slice_get-map}
 use Rattle.std.proofs.lemmas.Bool.Decides.{nat_tests}
-use Rattle.gc_expr.specs.Views.{Names, name_of}
+use Rattle.gc_expr.specs.Views.{Names}
 use Rattle.gc_ast.specs.Names.{same_name}
 use Rattle.gc_sorts.specs.declared.sort.UseAt.{UseAt}
 use Rattle.gc_sorts.specs.Graphs.{has_name}
@@ -21,10 +22,10 @@ pub has_use_name : (uses : List Use) (name : List ℕ) → has_name (use_names u
 has_use_name [] name = refl
 has_use_name (u ∷ us) name = ends (same_name name u.name) (has_use_name us name)
   where
-  ends : (is : Bool) → has_name (use_names us) name ≡ has_use us name
-      → (is || has_name (use_names us) name) ≡ is_some (cond is (Some u) (first_use us name))
-  ends true rest = refl
-  ends false rest = rest
+    ends : (is : Bool) → has_name (use_names us) name ≡ has_use us name
+        → (is || has_name (use_names us) name) ≡ is_some (cond is (Some u) (first_use us name))
+    ends true rest = refl
+    ends false rest = rest
 
 -- the number of the first place of a name, by the names and by the places
 same_place : (uses : List Use) (name : List ℕ) → first_place (use_names uses) name ≡ position (λ u. same_name name u.name) uses
@@ -112,3 +113,10 @@ first_in_first false a b name u at = at
 -- a name that the first list lacks
 pub first_in_second : (a b : List Use) (name : List ℕ) → first_use a name ≡ None → first_use (a ++ b) name ≡ first_use b name
 first_in_second a b name none = first_of_both a b name ∙ ap (λ o. option_or o (first_use b name)) none
+
+-- the costs among the first places are the first costs
+pub costs_cut : (uses : List Use) (n count : ℕ) → count ≡ length (cost_names (take n uses)) → take count (cost_names uses) ≡ cost_names (take n uses)
+costs_cut uses n count is =
+    ap (λ k. take k (cost_names uses)) is
+    ∙ ap (take (length (cost_names (take n uses)))) (sym (ap cost_names (take-append-drop n uses)) ∙ cost_names-append (take n uses) (drop n uses))
+    ∙ take-append_seam (cost_names (take n uses)) (cost_names (drop n uses))

@@ -1,6 +1,6 @@
 -- What expressions break: names that are not in scope, expressions of a sort that their place does not
 -- take, ALL variables, aggregates and EXISTS where they may not stand.
-use Rattle.std.specs.Prelude.{ℕ, ◌+◌, List, [], ◌∷◌, Bool, true, false, not, ◌&&◌, Option, Some, None, nat_eq, slice_get, unwrap_or, if◌then◌else◌}
+use Rattle.std.specs.Prelude.{ℕ, ◌+◌, List, Bool, true, false, not, Option, Some, None, slice_get, unwrap_or, if◌then◌else◌}
 use Rattle.gc_expr.specs.Trees as expr
 use Rattle.gc_expr.specs.Trees.{ExprTree, Kind, AnExpr, ANode}
 use Rattle.gc_expr.specs.declared.expr.Comparison.{Comparison}

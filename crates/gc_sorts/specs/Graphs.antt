@@ -3,8 +3,7 @@ use Rattle.std.specs.Prelude.{ℕ, List, [], ◌∷◌, ◌++◌, Bool, not, Opt
 use Rattle.std.specs.List.{list_any}
 use Rattle.gc_expr.specs.Views.{Names}
 use Rattle.gc_ast.specs.Names.{same_name}
-use Rattle.gc_ast.specs.Trees as tree
-use Rattle.gc_ast.specs.Trees.{Tree, TreeOf, Named, RowOf, ALocated}
+use Rattle.gc_ast.specs.Trees.{Named}
 use Rattle.gc_sorts.specs.declared.breach.SortRule.TheVariants.{UnknownGraph, UnknownView, NameTaken}
 use Rattle.gc_sorts.specs.Breaches.{Breaches, none, both, broken_if}
 

@@ -1,9 +1,11 @@
 pub mod Breaches
+pub mod Checks
 pub mod Constructs
 pub mod Expressions
 pub mod Graphs
 pub mod Holders
 pub mod Links
+pub mod Marks
 pub mod Matches
 pub mod Orders
 pub mod Patterns

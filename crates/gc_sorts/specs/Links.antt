@@ -12,7 +12,6 @@ use Rattle.gc_ast.specs.Trees.{Tree, Named, RowOf, ABlock, AnOptional, ALocated,
 use Rattle.gc_sorts.specs.declared.breach.SortRule.TheVariants.{LooseEdge}
 use Rattle.gc_sorts.specs.declared.link.LinkAt.{LinkAt}
 use Rattle.gc_sorts.specs.Breaches.{Breaches, none, both, broken_if}
-use Rattle.gc_sorts.specs.Patterns.{each}
 use Rattle.gc_sorts.specs.Uses.{all_of, optional_uses}
 use Rattle.gc_sorts.specs.Variables.{Use, has_use}
 

@@ -1,13 +1,13 @@
 -- Limits: the states of an expression, the patterns of a block, the OPTIONAL blocks of a CONSTRUCT, and
 -- the number before SHORTEST.
-use Rattle.std.specs.Prelude.{ℕ, ℤ, pos, negsuc, ◌+◌, ◌*◌, List, [], ◌∷◌, ◌++◌, Bool, true, false, ◌&&◌, not, nat_lt, nat_le, Option, Some, None, slice_get}
+use Rattle.std.specs.Prelude.{ℕ, ℤ, pos, negsuc, ◌+◌, List, [], ◌∷◌, Bool, false, ◌&&◌, not, nat_lt, nat_le, Option, Some, None, slice_get}
 use Rattle.gc_regx.specs.Trees as regex
 use Rattle.gc_regx.specs.Trees.{RegexTree, ARegex}
 use Rattle.gc_ast.specs.declared.pattern.CountAt.{CountAt}
 use Rattle.gc_ast.specs.Trees as tree
 use Rattle.gc_ast.specs.Trees.{Tree, TreeOf, Named, RowOf, ABlock, AnOptional, ALocated, APattern, AnElement, APropertyUse, APathBody}
 use Rattle.gc_sorts.specs.declared.breach.SortRule.TheVariants.{KOutOfRange, TooLarge}
-use Rattle.gc_sorts.specs.Breaches.{Breaches, none, both, broken, broken_if}
+use Rattle.gc_sorts.specs.Breaches.{Breaches, none, broken, broken_if}
 use Rattle.gc_sorts.specs.Uses.{all_of}
 
 -- the number of states of an expression's automaton: two for each symbol, alternation and star

@@ -1,12 +1,11 @@
 -- The sort rules of a query file: what its statements break, and which breach is the first.
-use Rattle.std.specs.Prelude.{◌≡◌, ℕ, List, [], ◌∷◌, ◌++◌, Bool, true, false, not, Option, Some, None, length, map, if◌then◌else◌, slice_get, unwrap_or}
+use Rattle.std.specs.Prelude.{ℕ, List, [], ◌∷◌, ◌++◌, Bool, true, false, ◌&&◌, Option, None, length}
 use Rattle.gc_ast.specs.Trees as tree
 use Rattle.gc_ast.specs.Trees.{Tree, Kind, RowOf, AStatement, AQuery, ATerm, ANextTerm, AHead, AFormula, ABasic, ABlock, AnOptional, ALocated, APattern, AnItem, AConstructPart, ANewElement}
-use Rattle.gc_sorts.specs.declared.form.Takes.{Takes}
 use Rattle.gc_sorts.specs.declared.form.Takes.TheVariants as takes
 use Rattle.gc_sorts.specs.declared.breach.Breach.{Breach}
 use Rattle.gc_sorts.specs.Breaches.{Breaches, none, both, first_among}
-use Rattle.gc_sorts.specs.Constructs.{Made, Making, making, nothing_made, with_items, item_breaches, formula_breaches}
+use Rattle.gc_sorts.specs.Constructs.{Made, making, nothing_made, with_items, item_breaches, formula_breaches}
 use Rattle.gc_sorts.specs.Expressions.{Standing, expression_breaches}
 use Rattle.gc_sorts.specs.Graphs.{unknown_graph, taken}
 use Rattle.gc_sorts.specs.Links.{Link, block_links, optional_links, loose_item}
@@ -40,19 +39,47 @@ abbrev pub behind_all : {k : Kind} → Sights → Tree (RowOf k) → Sights
 behind_all s tree.none = s
 behind_all s (tree.more t ts) = behind_all (behind s t) ts
 
+-- whether a row has no tree, a list no item, and what may be absent is
+abbrev pub is_none : {k : Kind} → Tree (RowOf k) → Bool
+is_none tree.none = true
+is_none ts = false
+
+abbrev pub is_empty : {A : Type 0} → List A → Bool
+is_empty [] = true
+is_empty xs = false
+
+abbrev pub is_absent : {A : Type 0} → Option A → Bool
+is_absent None = true
+is_absent o = false
+
 -- `CONSTRUCT ()`: one item of one node, with nothing in it and nothing behind
+abbrev pub is_bare_element : Tree ANewElement → Bool
+is_bare_element (tree.NewElement token name copy group labels assigns) =
+    is_absent name && (is_absent copy && (is_none group && (is_empty labels && is_none assigns)))
+
+abbrev pub is_bare_part : Tree AConstructPart → Bool
+is_bare_part (tree.NewNode element) = is_bare_element element
+is_bare_part part = false
+
+-- whether a row has one tree, which passes a test
+abbrev pub is_only : {k : Kind} → (Tree k → Bool) → Tree (RowOf k) → Bool
+is_only test (tree.more t tree.none) = test t
+is_only test ts = false
+
 abbrev pub is_bare_item : Tree AnItem → Bool
-is_bare_item (tree.ChainItem (tree.more (tree.NewNode (tree.NewElement token None None tree.none [] tree.none)) tree.none) tree.none tree.none) = true
+is_bare_item (tree.ChainItem parts changes condition) = is_only is_bare_part parts && (is_none changes && is_none condition)
 is_bare_item item = false
 
-abbrev pub is_bare : Tree (RowOf AnItem) → Bool
-is_bare (tree.more item tree.none) = is_bare_item item
-is_bare items = false
-
 -- an EXISTS query: `CONSTRUCT ()` with one MATCH block, without heads and OPTIONAL
+abbrev pub is_bare_basic : Tree ABasic → Bool
+is_bare_basic (tree.Basic token items main optionals) = is_only is_bare_item items && is_none optionals
+
+abbrev pub is_bare_term : Tree ATerm → Bool
+is_bare_term (tree.BasicTerm basic) = is_bare_basic basic
+is_bare_term term = false
+
 abbrev pub is_existence : Tree AQuery → Bool
-is_existence (tree.Query tree.none (tree.BasicTerm (tree.Basic token items main tree.none)) tree.none) = is_bare items
-is_existence query = false
+is_existence (tree.Query heads first rest) = is_none heads && (is_none rest && is_bare_term first)
 
 abbrev pub are_existence : Tree (RowOf AQuery) → List Bool
 are_existence tree.none = []

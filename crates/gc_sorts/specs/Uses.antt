@@ -1,6 +1,6 @@
 -- The places at which variables stand in patterns, in text order. A property's variable stands behind
 -- the element, a cost behind its path.
-use Rattle.std.specs.Prelude.{ℕ, List, [], ◌∷◌, ◌++◌, Option, Some, None}
+use Rattle.std.specs.Prelude.{List, [], ◌∷◌, ◌++◌, Option, Some, None}
 use Rattle.gc_ast.specs.Trees as tree
 use Rattle.gc_ast.specs.Trees.{Tree, TreeOf, Named, RowOf, ABlock, AnOptional, ALocated, APattern, AnElement, APropertyUse, APathBody}
 use Rattle.gc_sorts.specs.declared.sort.Role.{Role}

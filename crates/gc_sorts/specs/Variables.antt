@@ -1,7 +1,6 @@
 -- Variables: the places at which they stand, and what they stand for.
-use Rattle.std.specs.Prelude.{ℕ, List, Bool, true, false, ◌&&◌, ◌||◌, Option, map, is_some}
+use Rattle.std.specs.Prelude.{ℕ, List, Bool, true, false, Option, map, is_some}
 use Rattle.std.specs.List.{find, filter, list_any}
-use Rattle.gc_base.specs.declared.place.Sym.{Sym}
 use Rattle.gc_expr.specs.Views.{Names, name_of}
 use Rattle.gc_ast.specs.Names.{same_name}
 use Rattle.gc_sorts.specs.declared.sort.Sort.{Sort}

@@ -65,6 +65,7 @@ fn add_match(
     ensures links { OnOk result (map (link_by variables.old.names) links.new.items ≡ match_links variables.old.uses (block_tree variables.old.names main.now) (row (map (optional_tree variables.old.names) optionals.now.items))) }
     ensures found { IfOk result (λ first. first ≡ first_among found (match_breaches variables.old.uses (block_tree variables.old.names main.now) (row (map (optional_tree variables.old.names) optionals.now.items)))) }
     ensures costs { costs.new.names ≡ costs.old.names }
+    ensures order { OnOk result (costs.new.order ≡ cost_names variables.new.uses) }
 {
     let seen = variables.len();
     add_links(links, variables, main)?;
@@ -122,6 +123,7 @@ pub(crate) fn basic(
     ensures uses { OnOk result (variables.new.uses ≡ match_uses variables.old.uses (block_tree variables.old.names main.now) (row (map (optional_tree variables.old.names) optionals.now.items))) }
     ensures found { IfOk result (λ first. first ≡ first_among found (both (match_breaches variables.old.uses (block_tree variables.old.names main.now) (row (map (optional_tree variables.old.names) optionals.now.items))) (construct_breaches (known graphs.now) variables.old.uses (row (map (item_tree variables.old.names) all.now.items)) (block_tree variables.old.names main.now) (row (map (optional_tree variables.old.names) optionals.now.items))))) }
     ensures costs { costs.new.names ≡ costs.old.names }
+    ensures order { OnOk result (costs.new.order ≡ cost_names variables.new.uses) }
     ensures makes { makes.new.names ≡ makes.old.names }
 {
     let mut links = Vec::new(alloc);

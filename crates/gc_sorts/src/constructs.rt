@@ -57,12 +57,7 @@ fn assigns(found: Option<Breach>, making: &Making, given: &AssignList) -> Option
 }
 
 // A node's or an edge's name.
-fn made(
-    found: Option<Breach>,
-    making: &Making,
-    kind: Form,
-    name: &Option<NameAt>,
-) -> Option<Breach>
+fn made(found: Option<Breach>, making: &Making, kind: Form, name: &Option<NameAt>) -> Option<Breach>
     ensures { result ≡ first_among found (constructs.made_breaches making.now.all kind (named_if making.now.names name.now)) }
 {
     match name {
@@ -86,7 +81,13 @@ fn copy(
         None => found,
         Some(name) => {
             let place = making.given();
-            name_at(found, &place, Takes::Like(kind), name.sym, name.token as u64)
+            name_at(
+                found,
+                &place,
+                Takes::Like(kind),
+                name.sym,
+                name.token as u64,
+            )
         }
     }
 }
@@ -119,7 +120,8 @@ fn grouped(found: Option<Breach>, making: &Making, place: Option<UseAt>) -> Opti
     match place {
         None => found,
         Some(at) => {
-            let is_twice = making.is_matched(at.name) || making.is_grouped_before(at.name, at.token);
+            let is_twice = making.is_matched(at.name)
+                || making.is_grouped_before(at.name, at.token);
             noted_if(found, is_twice, SortRule::TwiceGrouped, at.token as u64)
         }
     }
@@ -144,8 +146,8 @@ fn second_edge(found: Option<Breach>, making: &Making, name: &Option<NameAt>) ->
     match name {
         None => found,
         Some(name) => {
-            let is_second =
-                !making.is_matched(name.sym) && making.is_made_before(name.sym, name.token);
+            let is_second = !making.is_matched(name.sym)
+                && making.is_made_before(name.sym, name.token);
             noted_if(found, is_second, SortRule::TwiceGrouped, name.token as u64)
         }
     }
@@ -164,7 +166,11 @@ fn element(
     let found = made(found, making, kind, &element.name);
     let found = copy(found, making, kind, &element.copy);
     let found = terms(found, making, &element.group);
-    let found = grouped(found, making, group_use(role, &element.name, &element.group));
+    let found = grouped(
+        found,
+        making,
+        group_use(role, &element.name, &element.group),
+    );
     let found = copied(found, making, copy_use(role, &element.name, &element.copy));
     assigns(found, making, &element.assigns)
 }
@@ -286,12 +292,7 @@ fn condition(found: Option<Breach>, making: &Making, when: &Option<Formula>) -> 
 }
 
 #[tactic(auto, unfolding(gc_ast::specs::QueryViews::item_by, gc_ast::specs::QueryViews::part_by, gc_ast::specs::QueryViews::change_by, gc_ast::specs::QueryViews::formula_by))]
-fn item(
-    found: Option<Breach>,
-    graphs: &GraphNames,
-    making: &Making,
-    item: &Item,
-) -> Option<Breach>
+fn item(found: Option<Breach>, graphs: &GraphNames, making: &Making, item: &Item) -> Option<Breach>
     requires { graphs.now.names ≡ making.now.names }
     ensures { result ≡ first_among found (constructs.item_breaches (known graphs.now) making.now.all (item_tree making.now.names item.now)) }
 {

@@ -67,12 +67,7 @@ fn is_taken(takes: Takes, form: Form) -> bool
 }
 
 /// The first breach of those so far and of what stands at a token where a place takes some forms.
-pub(crate) fn misfit(
-    found: Option<Breach>,
-    takes: Takes,
-    form: Form,
-    token: u64,
-) -> Option<Breach>
+pub(crate) fn misfit(found: Option<Breach>, takes: Takes, form: Form, token: u64) -> Option<Breach>
     ensures { result ≡ first_among found (misfit takes form token) }
 {
     match form {
@@ -207,12 +202,7 @@ fn node(
 
 #[tactic(auto, unfolding(gc_expr::specs::Trees::renamed, gc_expr::specs::Views::numbered_expr, crate::specs::Expressions::expression_breaches))]
 #[cycle(expression)]
-fn conditions(
-    found: Option<Breach>,
-    place: &Place,
-    folds: bool,
-    parts: &ExprList,
-) -> Option<Breach>
+fn conditions(found: Option<Breach>, place: &Place, folds: bool, parts: &ExprList) -> Option<Breach>
     ensures { (at : ℕ) → result ≡ first_among found (expression_breaches place.now.at folds takes.Condition at (renamed (name_of place.now.names) (row (map numbered_expr parts.now.items)))) }
 {
     let mut found = found;

@@ -138,7 +138,12 @@ pub(crate) fn unknown_graph(
 ) -> Option<Breach>
     ensures { result ≡ first_among found (unknown_graph (known graphs.now) (named graphs.now.names graph)) }
 {
-    noted_if(found, !graphs.has(graph.sym), SortRule::UnknownGraph, graph.token as u64)
+    noted_if(
+        found,
+        !graphs.has(graph.sym),
+        SortRule::UnknownGraph,
+        graph.token as u64,
+    )
 }
 
 /// The same of a graph that may be absent.
@@ -163,12 +168,22 @@ pub(crate) fn taken_graph(
 ) -> Option<Breach>
     ensures { result ≡ first_among found (taken (known graphs.now) (named graphs.now.names name)) }
 {
-    noted_if(found, graphs.has(name.sym), SortRule::NameTaken, name.token as u64)
+    noted_if(
+        found,
+        graphs.has(name.sym),
+        SortRule::NameTaken,
+        name.token as u64,
+    )
 }
 
 /// The first breach of those so far and a view's name that is taken.
 pub(crate) fn taken_view(found: Option<Breach>, views: &Index, name: NameAt) -> Option<Breach>
     ensures { result ≡ first_among found (taken views.now.order (named views.now.names name)) }
 {
-    noted_if(found, views.has(name.sym), SortRule::NameTaken, name.token as u64)
+    noted_if(
+        found,
+        views.has(name.sym),
+        SortRule::NameTaken,
+        name.token as u64,
+    )
 }

@@ -5,7 +5,10 @@
 
 mod basics;
 mod breach;
+mod checker;
+mod checking;
 mod constructs;
+mod existence;
 mod expressions;
 mod form;
 mod graphs;
@@ -17,13 +20,21 @@ mod making;
 mod match_links;
 mod matches;
 mod patterns;
+mod refusal;
+mod rules;
 mod sizes;
 mod sort;
 mod standing;
+mod statements;
+#[cfg(test)]
+mod tests;
 mod tokens;
 mod uses;
 mod variables;
 
-pub use breach::SortRule;
+pub use breach::{Breach, SortRule};
+pub use checking::{Checked, check};
+pub use refusal::SortRefusal;
 pub use sizes::state_count;
 pub use sort::Sort;
+pub use statements::first_breach;

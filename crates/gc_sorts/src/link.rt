@@ -62,7 +62,8 @@ fn same_neighbour(variables: &Variables, a: Option<Sym>, b: Option<Sym>) -> bool
 pub(crate) fn fits(variables: &Variables, a: LinkAt, b: LinkAt) -> bool
     ensures { result ≡ fits (link_by variables.now.names a) (link_by variables.now.names b) }
 {
-    variables.same(a.name, b.name) && (fits_straight(variables, a, b) || fits_turned(variables, a, b))
+    variables.same(a.name, b.name)
+        && (fits_straight(variables, a, b) || fits_turned(variables, a, b))
 }
 
 fn fits_straight(variables: &Variables, a: LinkAt, b: LinkAt) -> bool

@@ -37,7 +37,12 @@ fn bound_link(
 ) -> Option<Breach>
     ensures { result ≡ first_among found (linking.bound_link (map (link_by matched.now.names) links.now) (link_by matched.now.names link) token) }
 {
-    noted_if(found, !fits_one(matched, links, link), SortRule::LooseEdge, token)
+    noted_if(
+        found,
+        !fits_one(matched, links, link),
+        SortRule::LooseEdge,
+        token,
+    )
 }
 
 // A path, whose links go forward.

@@ -123,11 +123,7 @@ fn use_before(role: Role, name: &Option<NameAt>, token: u32) -> Option<UseAt>
 }
 
 /// The word GROUP of a named element.
-pub(crate) fn group_use(
-    role: Role,
-    name: &Option<NameAt>,
-    group: &GroupTermList,
-) -> Option<UseAt>
+pub(crate) fn group_use(role: Role, name: &Option<NameAt>, group: &GroupTermList) -> Option<UseAt>
     ensures { (names : Names) → map (use_by names) (option_to_list result) ≡ group_uses role (named_if names name.now) (row (map (group_term_tree names) group.now)) }
 {
     match group.as_slice().first() {
@@ -137,11 +133,7 @@ pub(crate) fn group_use(
 }
 
 /// The `=` of a named element.
-pub(crate) fn copy_use(
-    role: Role,
-    name: &Option<NameAt>,
-    copy: &Option<NameAt>,
-) -> Option<UseAt>
+pub(crate) fn copy_use(role: Role, name: &Option<NameAt>, copy: &Option<NameAt>) -> Option<UseAt>
     ensures { (names : Names) → map (use_by names) (option_to_list result) ≡ copy_uses role (named_if names name.now) (named_if names copy.now) }
 {
     match copy {

@@ -20,9 +20,8 @@ fn path_name(body: &PathBody) -> Option<Sym>
 {
     match body {
         PathBody::Reach { .. } => None,
-        PathBody::Found { name, .. }
-        | PathBody::All { name, .. }
-        | PathBody::Stored { name, .. } => Some(name.sym),
+        PathBody::Found { name, .. } | PathBody::All { name, .. } | PathBody::Stored { name, .. } =>
+            Some(name.sym),
     }
 }
 
@@ -88,17 +87,20 @@ fn add_pattern(
             add_link(links, before, left, right, sym_if(&element.name), *way)
         }
         Pattern::Path { body, .. } => {
-            add_link(links, before, left, right, path_name(body), Direction::Forward)
+            add_link(
+                links,
+                before,
+                left,
+                right,
+                path_name(body),
+                Direction::Forward,
+            )
         }
     }
 }
 
 // Adds the links of a chain.
-fn add_chain(
-    links: &mut Vec<LinkAt>,
-    before: &Variables,
-    parts: &PatternList,
-) -> Result<(), Memory>
+fn add_chain(links: &mut Vec<LinkAt>, before: &Variables, parts: &PatternList) -> Result<(), Memory>
     ensures { OnOk result (map (link_by before.now.names) links.new.items ≡ map (link_by before.now.names) links.old.items ++ linking.chain_links before.now.uses None (row (map (pattern_tree before.now.names) parts.now))) }
 {
     let mut left = None;

@@ -19,11 +19,7 @@ use gc_ast::{OptionalBlock, OptionalList};
 use gc_base::Memory;
 
 /// Notes the names of the places behind COST, from a place on.
-pub(crate) fn add_costs(
-    costs: &mut Index,
-    variables: &Variables,
-    from: usize,
-) -> Result<(), Memory>
+pub(crate) fn add_costs(costs: &mut Index, variables: &Variables, from: usize) -> Result<(), Memory>
     requires names { costs.old.names ≡ variables.now.names }
     requires from { from ≤ length variables.now.uses }
     requires before { costs.old.order ≡ cost_names (take from variables.now.uses) }
@@ -129,7 +125,12 @@ fn shared_places(
     for place in variables.from(from) {
         let first = variables.first_number(place.name);
         let is_shared = is_between(mandatory, from, first);
-        found = noted_if(found, is_shared, SortRule::SharedOptional, place.token as u64);
+        found = noted_if(
+            found,
+            is_shared,
+            SortRule::SharedOptional,
+            place.token as u64,
+        );
     }
     found
 }

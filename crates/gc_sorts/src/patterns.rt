@@ -1,17 +1,17 @@
 ghost use Rattle.std.specs.Prelude.{◌≡◌, ◌∷◌, [], map, IfOk};
-ghost use Rattle.gc_expr.specs.Views.{name_of};
-ghost use Rattle.gc_ast.specs.PatternViews.{all_named_by, pattern_tree, located_tree, body_by};
-ghost use Rattle.gc_ast.specs.Trees.{row};
+ghost use Rattle.gc_expr.specs.Views.{Names, name_of};
+ghost use Rattle.gc_ast.specs.PatternViews.{named, all_named_by, pattern_tree, located_tree, body_by};
+ghost use Rattle.gc_ast.specs.Trees.{row, rows};
 ghost use Rattle.gc_sorts.specs.Breaches.{first_among};
 ghost use Rattle.gc_sorts.specs.Graphs.{known, unknown_views};
-ghost use Rattle.gc_sorts.specs.Patterns.{path_breaches, pattern_breaches, located_breaches, patterns_breaches, each};
+ghost use Rattle.gc_sorts.specs.Patterns.{path_breaches, pattern_breaches, located_breaches, patterns_breaches, chains_breaches, is_edge, has_edge, begins_with_edge, each};
 
 use crate::breach::{Breach, SortRule, noted_if};
 use crate::graphs::{GraphNames, unknown_graph_if};
 use crate::index::Index;
 use crate::sizes::{out_of_range, too_many, too_many_states};
-use crate::tokens::located_tokens;
-use gc_ast::{Chain, Located, LocatedList, NameAtList, PathBody, Pattern};
+use crate::tokens::{chains_tokens, located_tokens};
+use gc_ast::{Chain, ChainList, Located, LocatedList, NameAtList, PathBody, Pattern};
 use gc_base::{Memory, NameAt};
 use std::alloc::Global;
 
@@ -29,7 +29,12 @@ fn unknown_views(found: Option<Breach>, views: &Index, named: &NameAtList) -> Op
 fn unknown_view(found: Option<Breach>, views: &Index, view: NameAt) -> Option<Breach>
     ensures { result ≡ first_among found (unknown_views views.now.order (all_named_by (name_of views.now.names) (view ∷ []))) }
 {
-    noted_if(found, !views.has(view.sym), SortRule::UnknownView, view.token as u64)
+    noted_if(
+        found,
+        !views.has(view.sym),
+        SortRule::UnknownView,
+        view.token as u64,
+    )
 }
 
 /// The first breach of those so far and of a path.
@@ -37,7 +42,10 @@ fn path(found: Option<Breach>, views: &Index, regex_at: u32, body: &PathBody) ->
     ensures { result ≡ first_among found (path_breaches views.now.order regex_at (body_by (name_of views.now.names) body.now)) }
 {
     match body {
-        PathBody::Reach { regex, views: named } => {
+        PathBody::Reach {
+            regex,
+            views: named,
+        } => {
             let found = unknown_views(found, views, named);
             too_many_states(found, regex, regex_at)
         }
@@ -127,5 +135,60 @@ pub(crate) fn block_patterns(
 {
     let found = all_located(found, graphs, views, patterns);
     let tokens = located_tokens(alloc, patterns)?;
+    Ok(too_many(found, &tokens))
+}
+
+// Whether a part of a chain is an edge.
+fn is_edge(part: &Pattern) -> bool
+    ensures { (names : Names) → result ≡ is_edge (pattern_tree names part.now) }
+{
+    matches!(part, Pattern::Edge { .. })
+}
+
+fn has_edge(chain: &Chain) -> bool
+    ensures { (names : Names) → result ≡ has_edge (row (map (pattern_tree names) chain.now.parts)) }
+{
+    for part in chain.parts.as_slice() {
+        if is_edge(part) {
+            return true;
+        }
+    }
+    false
+}
+
+// Whether the first chain of a view has an edge.
+fn begins_with_edge(chains: &ChainList) -> bool
+    ensures { (names : Names) → result ≡ begins_with_edge (rows (map (λ c. map (pattern_tree names) c.parts) chains.now)) }
+{
+    if chains.len() == 0 {
+        return false;
+    }
+    has_edge(chains.at(0))
+}
+
+fn all_chains(found: Option<Breach>, views: &Index, chains: &ChainList) -> Option<Breach>
+    ensures { result ≡ first_among found (each (each (pattern_breaches views.now.order)) (rows (map (λ c. map (pattern_tree views.now.names) c.parts) chains.now))) }
+{
+    let mut found = found;
+    for one in chains.as_slice() {
+        found = chain(found, views, one);
+    }
+    found
+}
+
+/// The first breach of those so far and of the chains of a view.
+pub(crate) fn view_chains(
+    alloc: Global,
+    found: Option<Breach>,
+    views: &Index,
+    name: NameAt,
+    chains: &ChainList,
+) -> Result<Option<Breach>, Memory>
+    ensures { IfOk result (λ first. first ≡ first_among found (chains_breaches views.now.order (named views.now.names name) (rows (map (λ c. map (pattern_tree views.now.names) c.parts) chains.now)))) }
+{
+    let has_edge = begins_with_edge(chains);
+    let found = noted_if(found, !has_edge, SortRule::ViewNeedsEdge, name.token as u64);
+    let found = all_chains(found, views, chains);
+    let tokens = chains_tokens(alloc, chains)?;
     Ok(too_many(found, &tokens))
 }

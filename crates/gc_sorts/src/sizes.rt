@@ -42,7 +42,12 @@ fn states_of(parts: &RegexList) -> u64
 pub(crate) fn too_many_states(found: Option<Breach>, regex: &Regex, at: u32) -> Option<Breach>
     ensures { result ≡ first_among found (too_many_states (regex_tree regex.now) at) }
 {
-    noted_if(found, state_count(regex) > MOST_STATES, SortRule::TooLarge, at as u64)
+    noted_if(
+        found,
+        state_count(regex) > MOST_STATES,
+        SortRule::TooLarge,
+        at as u64,
+    )
 }
 
 /// The first breach of those so far and a number before SHORTEST that is none of 1 to 1,000.
@@ -51,7 +56,12 @@ pub(crate) fn out_of_range(found: Option<Breach>, count: &Option<CountAt>) -> Op
 {
     match count {
         None => found,
-        Some(k) => noted_if(found, !is_in_range(k.count), SortRule::KOutOfRange, k.token as u64),
+        Some(k) => noted_if(
+            found,
+            !is_in_range(k.count),
+            SortRule::KOutOfRange,
+            k.token as u64,
+        ),
     }
 }
 

@@ -1,11 +1,11 @@
 ghost use Rattle.std.specs.Prelude.{◌≡◌, ◌++◌, map, IfOk, OnOk};
 ghost use Rattle.gc_expr.specs.Views.{Names, name_of};
 ghost use Rattle.gc_ast.specs.PatternViews.{pattern_tree, located_tree, element_by, property_use_by};
-ghost use Rattle.gc_ast.specs.Trees.{row};
+ghost use Rattle.gc_ast.specs.Trees.{row, rows};
 ghost use Rattle.gc_sorts.specs.Sizes as sizes;
 ghost use Rattle.gc_sorts.specs.Uses.{all_of};
 
-use gc_ast::{Element, LocatedList, Pattern, PatternList};
+use gc_ast::{ChainList, Element, LocatedList, Pattern, PatternList};
 use gc_base::Memory;
 use std::alloc::Global;
 
@@ -16,6 +16,17 @@ pub(crate) fn located_tokens(alloc: Global, patterns: &LocatedList) -> Result<Ve
     let mut tokens = Vec::new(alloc);
     for located in patterns.as_slice() {
         add_chain_tokens(&mut tokens, &located.chain.parts)?;
+    }
+    Ok(tokens)
+}
+
+/// The same of the chains of a view.
+pub(crate) fn chains_tokens(alloc: Global, chains: &ChainList) -> Result<Vec<u32>, Memory>
+    ensures { IfOk result (λ tokens. (names : Names) → tokens.items ≡ all_of (all_of sizes.pattern_tokens) (rows (map (λ c. map (pattern_tree names) c.parts) chains.now))) }
+{
+    let mut tokens = Vec::new(alloc);
+    for chain in chains.as_slice() {
+        add_chain_tokens(&mut tokens, &chain.parts)?;
     }
     Ok(tokens)
 }

@@ -8,8 +8,7 @@ ghost use Rattle.gc_sorts.specs.Uses.{all_of, use_if, element_uses, body_uses, p
 use crate::sort::{Role, UseAt};
 use crate::variables::Variables;
 use gc_ast::{
-    ChainList, Element, LocatedList, MatchBlock, PathBody, Pattern, PatternList,
-    PropertyUseList,
+    ChainList, Element, LocatedList, MatchBlock, PathBody, Pattern, PatternList, PropertyUseList,
 };
 use gc_base::{Memory, NameAt};
 
@@ -26,7 +25,11 @@ fn add(variables: &mut Variables, role: Role, name: NameAt) -> Result<(), Memory
 }
 
 /// Adds a place that may be absent.
-pub(crate) fn add_if(variables: &mut Variables, role: Role, name: &Option<NameAt>) -> Result<(), Memory>
+pub(crate) fn add_if(
+    variables: &mut Variables,
+    role: Role,
+    name: &Option<NameAt>,
+) -> Result<(), Memory>
     ensures names { variables.new.names ≡ variables.old.names }
     ensures uses { OnOk result (variables.new.uses ≡ variables.old.uses ++ use_if role (named_if variables.old.names name.now)) }
 {

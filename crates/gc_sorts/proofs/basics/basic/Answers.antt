@@ -1,10 +1,10 @@
-use Rattle.std.proofs.Common.{◌≡◌, ◌∙◌, sym, ap, subst, map, IfOk}
+use Rattle.std.proofs.Common.{◌≡◌, ◌∙◌, ap, subst, map, IfOk}
 use Rattle.gc_ast.specs.QueryViews.{block_tree, optional_tree, item_tree}
 use Rattle.gc_ast.specs.Trees.{row}
-use Rattle.gc_sorts.specs.Breaches.{both, first_among}
+use Rattle.gc_sorts.specs.Breaches.{first_among}
 use Rattle.gc_sorts.specs.Graphs.{known}
 use Rattle.gc_sorts.specs.Links.{link_by}
-use Rattle.gc_sorts.specs.SortRules.{match_uses, match_links, match_breaches, items_breaches, construct_breaches}
+use Rattle.gc_sorts.specs.SortRules.{match_links, items_breaches, construct_breaches}
 use Rattle.gc_sorts.proofs.basics.basic.Goals as goal
 
 pub returns-clause-found : goal.returns-clause-found

@@ -1,10 +1,8 @@
 use Rattle.std.proofs.Common.{◌≡◌, drop, map}
-use Rattle.gc_ast.specs.PatternViews.{group_term_tree}
-use Rattle.gc_ast.specs.QueryViews.{assign_tree, part_tree, change_tree, item_tree}
+use Rattle.gc_ast.specs.QueryViews.{change_tree}
 use Rattle.gc_ast.specs.Trees.{row}
 use Rattle.gc_sorts.specs.Breaches.{first_among}
-use Rattle.gc_sorts.specs.Constructs.{assign_breaches, term_breaches, part_breaches, change_breaches, item_breaches}
-use Rattle.gc_sorts.specs.Graphs.{known}
+use Rattle.gc_sorts.specs.Constructs.{change_breaches}
 use Rattle.gc_sorts.specs.Patterns.{each}
 use Rattle.gc_sorts.proofs.constructs.changes.Given as goal
 

@@ -1,6 +1,6 @@
 use Rattle.std.proofs.Common.{◌∙◌, sym, ap, false, map}
 use Rattle.std.specs.Option.{option_map}
-use Rattle.gc_ast.specs.QueryViews.{item_tree, part_tree, change_tree, formula_tree}
+use Rattle.gc_ast.specs.QueryViews.{item_tree, change_tree, formula_tree}
 use Rattle.gc_ast.specs.Trees.{row, maybe}
 use Rattle.gc_sorts.specs.declared.form.Takes.TheVariants as takes
 use Rattle.gc_sorts.specs.Breaches.{first_among}

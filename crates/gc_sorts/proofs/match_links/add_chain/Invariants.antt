@@ -9,5 +9,5 @@ use Rattle.gc_sorts.proofs.match_links.add_chain.Given as goal
 abbrev pub invariant-loop-part : goal.invariant-loop-part
 invariant-loop-part l = record {
   number : l.number ≡ l.part-index;
-  links : map (link_by l.before.names) l.links.items ++ chain_links l.before.uses (option_map (name_of l.before.names) l.left) (row (map (pattern_tree l.before.names) (drop l.part-index l.part-items))) ≡ map (link_by l.before.names) l.initial.links.items ++ chain_links l.before.uses None (row (map (pattern_tree l.before.names) l.part-items))
+  links : map (link_by l.before.names) l.links.items ++ chain_links l.before.uses (option_map (name_of l.before.names) l.left) (row (map (pattern_tree l.before.names) (drop l.part-index l.part-items))) ≡ map (link_by l.before.names) l.initial.links.items ++ chain_links l.before.uses None (row (map (pattern_tree l.before.names) l.part-items));
 }

@@ -5,5 +5,5 @@ use Rattle.gc_sorts.proofs.matches.add_costs.Given as goal
 abbrev pub invariant-loop-place : goal.invariant-loop-place
 invariant-loop-place l = record {
   names : l.costs.names ≡ l.initial.costs.names;
-  order : l.costs.order ++ cost_names (map (use_by l.variables.names) (drop l.place-index l.place-items)) ≡ l.initial.costs.order ++ cost_names (map (use_by l.variables.names) l.place-items)
+  order : l.costs.order ++ cost_names (map (use_by l.variables.names) (drop l.place-index l.place-items)) ≡ l.initial.costs.order ++ cost_names (map (use_by l.variables.names) l.place-items);
 }

@@ -8,5 +8,5 @@ use Rattle.gc_sorts.proofs.sizes.+states.Given as goal
 abbrev pub invariant-states_of-loop-part : goal.invariant-states_of-loop-part
 invariant-states_of-loop-part l = record {
   small : l.count ≤ 2 ^ 64 - 1;
-  total : min (l.count + states (row (map regex_tree (drop l.part-index l.part-items)))) (2 ^ 64 - 1) ≡ min (states (row (map regex_tree l.part-items))) (2 ^ 64 - 1)
+  total : min (l.count + states (row (map regex_tree (drop l.part-index l.part-items)))) (2 ^ 64 - 1) ≡ min (states (row (map regex_tree l.part-items))) (2 ^ 64 - 1);
 }

@@ -1,4 +1,4 @@
-use Rattle.std.proofs.Common.{◌++◌, ◌∙◌, sym, ap, map}
+use Rattle.std.proofs.Common.{◌++◌, ◌∙◌, ap, map}
 use Rattle.gc_ast.specs.PatternViews.{pattern_tree}
 use Rattle.gc_ast.specs.Trees.{row}
 use Rattle.gc_sorts.specs.Sizes as sizes
