@@ -1,0 +1,11 @@
+pub mod Slots
+pub mod Places
+pub mod StateLoops
+pub mod LoadedSlots
+pub mod Rows
+pub mod UsePlaces
+pub mod ConstructTrees
+pub mod OptionalTokens
+pub mod Chains
+pub mod RuleRows
+pub mod RuleTrees

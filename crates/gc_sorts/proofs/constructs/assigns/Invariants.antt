@@ -1,0 +1,12 @@
+use Rattle.std.proofs.Common.{◌≡◌, drop, map}
+use Rattle.gc_ast.specs.QueryViews.{assign_tree}
+use Rattle.gc_ast.specs.Trees.{row}
+use Rattle.gc_sorts.specs.Breaches.{first_among}
+use Rattle.gc_sorts.specs.Constructs.{assign_breaches}
+use Rattle.gc_sorts.specs.Patterns.{each}
+use Rattle.gc_sorts.proofs.constructs.assigns.Given as goal
+
+abbrev pub invariant-loop-one : goal.invariant-loop-one
+invariant-loop-one l =
+    first_among l.found (each (assign_breaches l.making.all) (row (map (assign_tree l.making.names) (drop l.one-index l.one-items))))
+    ≡ first_among l.initial.found (each (assign_breaches l.making.all) (row (map (assign_tree l.making.names) l.one-items)))

@@ -1,0 +1,15 @@
+pub mod Breaches
+pub mod Checks
+pub mod Constructs
+pub mod Expressions
+pub mod Graphs
+pub mod Holders
+pub mod Links
+pub mod Marks
+pub mod Matches
+pub mod Orders
+pub mod Patterns
+pub mod Sizes
+pub mod SortRules
+pub mod Uses
+pub mod Variables

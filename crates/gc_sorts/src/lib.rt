@@ -1,0 +1,40 @@
+//! The sort rules of query files: whether names, graphs, views and expressions stand where they may.
+//! Others rely on `check`, which gives the first breach of a rule and its place, or a checked file.
+//! This crate knows of no token list, no text and no graph, only of the names that graphs have.
+#![tactic(auto)]
+
+mod basics;
+mod breach;
+mod checker;
+mod checking;
+mod constructs;
+mod existence;
+mod expressions;
+mod form;
+mod graphs;
+mod index;
+mod link;
+mod loose;
+mod makes;
+mod making;
+mod match_links;
+mod matches;
+mod patterns;
+mod refusal;
+mod rules;
+mod sizes;
+mod sort;
+mod standing;
+mod statements;
+#[cfg(test)]
+mod tests;
+mod tokens;
+mod uses;
+mod variables;
+
+pub use breach::{Breach, SortRule};
+pub use checking::{Checked, check};
+pub use refusal::SortRefusal;
+pub use sizes::state_count;
+pub use sort::Sort;
+pub use statements::first_breach;
