@@ -1,7 +1,7 @@
 //! What a parser reads from: the tokens of a file with the number of each name among them, one token taken
 //! at a time. Others rely on `Source`, whose calls give exactly what the readers of single tokens give, on
-//! the questions which of two alternatives begins at a place, and on `Refusal`. This crate knows no tree,
-//! no text and no graph.
+//! the questions which of two alternatives begins at a place, and on `Refusal`. This crate builds
+//! no tree, and knows no text and no graph.
 #![tactic(auto)]
 
 mod forks;
