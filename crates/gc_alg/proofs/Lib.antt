@@ -1,0 +1,5 @@
+pub mod Own
+pub mod Restrictions
+pub mod Schemas
+pub mod TextOrder
+pub mod Totals
