@@ -16,6 +16,7 @@ use crate::fault::{Failure, Fault};
 use crate::nodes::add_node;
 use crate::paths::add_path;
 use crate::refusal::{GraphRefusal, Part, Spot};
+use crate::release::release;
 use crate::taken::{members_of, take_list};
 use crate::values::{is_object_of, number_at};
 use gc_ppg::{Coherence, Graph, GraphBuilder, Kind};
@@ -162,6 +163,9 @@ fn graph_of_lists(
     add_elements(alloc, &mut builder, seen, Kind::Node, &lists.nodes)?;
     add_elements(alloc, &mut builder, seen, Kind::Edge, &lists.edges)?;
     add_elements(alloc, &mut builder, seen, Kind::Path, &lists.paths)?;
+    release(alloc, lists.nodes);
+    release(alloc, lists.edges);
+    release(alloc, lists.paths);
     Ok(builder)
 }
 
