@@ -35,6 +35,5 @@ mod variables;
 pub use breach::{Breach, SortRule};
 pub use checking::{Checked, check};
 pub use refusal::SortRefusal;
-pub use sizes::state_count;
 pub use sort::Sort;
 pub use statements::first_breach;
