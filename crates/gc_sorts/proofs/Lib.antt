@@ -1,3 +1,4 @@
+pub mod FirstBreach
 pub mod Slots
 pub mod Places
 pub mod LoadedSlots

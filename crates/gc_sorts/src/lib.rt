@@ -13,6 +13,7 @@ mod expressions;
 mod form;
 mod graphs;
 mod index;
+mod laws;
 mod link;
 mod loose;
 mod makes;
@@ -34,6 +35,7 @@ mod variables;
 
 pub use breach::{Breach, SortRule};
 pub use checking::{Checked, check};
+pub use laws::the_first_breach_is_the_first;
 pub use refusal::SortRefusal;
 pub use sort::Sort;
 pub use statements::first_breach;
