@@ -5,6 +5,7 @@
 
 mod basics;
 mod breach;
+mod checked;
 mod checker;
 mod checking;
 mod constructs;
@@ -34,7 +35,8 @@ mod uses;
 mod variables;
 
 pub use breach::{Breach, SortRule};
-pub use checking::{Checked, check};
+pub use checked::Checked;
+pub use checking::check;
 pub use laws::the_first_breach_is_the_first;
 pub use refusal::SortRefusal;
 pub use sort::Sort;
