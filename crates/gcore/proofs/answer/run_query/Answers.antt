@@ -1,12 +1,13 @@
-use Rattle.std.proofs.Common.{◌≡◌, ℕ, List, Option, Ok, sym, ap, ◌∙◌, subst, slice_get}
+use Rattle.std.proofs.Common.{◌≡◌, ℕ, List, Option, Some, Ok, sym, ap, ◌∙◌, subst, slice_get}
 use Rattle.std.specs.Prelude.{IfSome}
 use Rattle.gc_base.specs.Files.{Files}
 use Rattle.gcore.specs.Outcomes.{graph_names, label_due}
 use Rattle.gcore.specs.Steps.{StopsReadingQuery}
+use Rattle.gcore.specs.declared.command.Command.TheVariants.{Run}
 use Rattle.gcore.specs.declared.stop.Stop.{Stop}
 use Rattle.gcore.specs.declared.stop.Stop.TheVariants.{OutOfMemory}
 use Rattle.gcore.proofs.GraphsRead.{graphs_differ}
-use Rattle.gcore.proofs.RunLaws.{room_holds, label_stops, written, answers_stop}
+use Rattle.gcore.proofs.RunLaws.{room_holds, label_stops, still, written, answers_stop}
 use Rattle.gcore.proofs.answer.run_query.Goals as goal
 
 pub read_graphs-requires : goal.read_graphs-requires
@@ -35,10 +36,13 @@ write_labelled-written-requires g c =
 
 pub returns-in_err-names-clause-outcome : goal.returns-in_err-names-clause-outcome
 returns-in_err-names-clause-outcome g c =
+    let told = g.F.Folder.files c.args.folder.now in
+    let before = g.F.Folder.faults c.args.folder.now in
     let middle = g.F.Folder.faults c.read_graphs.new.folder in
-    let stops = label_stops c.args.query.now c.args.pairs.now (g.F.Folder.files c.args.folder.now) c.in_ok-catalog.catalog.graphs (g.F.Folder.faults c.args.folder.now) middle middle (g.S.Sink.faults c.args.out.now)
-    (g.S.Sink.taken c.args.out.now) OutOfMemory c.in_ok-catalog.ensures.outcome.2 c.in_ok-catalog.ensures.later tt in
-    answers_stop _ c.from_residual-in_err-names.result OutOfMemory c.from_residual-in_err-names.ensures.0 c.from_residual-in_err-names.ensures.1 stops
+    let faults = g.S.Sink.faults c.args.out.now in
+    let taken = g.S.Sink.taken c.args.out.now in
+    let stops = label_stops c.args.query.now c.args.pairs.now told c.in_ok-catalog.catalog.graphs before middle middle faults taken OutOfMemory c.in_ok-catalog.ensures.outcome.2 c.in_ok-catalog.ensures.later tt in
+    answers_stop (record { command = Some (Run c.args.query.now c.args.pairs.now); files = told; faults_before = before; faults_after = middle; out = still faults taken }) c.from_residual-in_err-names.result OutOfMemory c.from_residual-in_err-names.ensures.0 c.from_residual-in_err-names.ensures.1 stops
 
 pub returns-in_err-label-clause-outcome : goal.returns-in_err-label-clause-outcome
 returns-in_err-label-clause-outcome g c =
