@@ -16,6 +16,7 @@ mod parts;
 mod paths;
 mod properties;
 mod refusal;
+mod release;
 mod taken;
 #[cfg(test)]
 mod tests;

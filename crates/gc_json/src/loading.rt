@@ -16,6 +16,7 @@ use crate::fault::{Failure, Fault};
 use crate::nodes::add_node;
 use crate::paths::add_path;
 use crate::refusal::{GraphRefusal, Part, Spot};
+use crate::release::release;
 use crate::taken::{members_of, take_list};
 use crate::values::{is_object_of, number_at};
 use gc_ppg::{Coherence, Graph, GraphBuilder, Kind};
@@ -149,7 +150,8 @@ fn graph_of_few(
     graph_of_lists(alloc, lists, seen)
 }
 
-// The graph of the lists: nodes, then edges, then paths.
+// The graph of the lists: nodes, then edges, then paths. The lists are let go at the end, as a whole:
+// memory that is freed beside each element would be cut up for the next ones.
 fn graph_of_lists(
     alloc: Global,
     lists: Lists,
@@ -158,25 +160,28 @@ fn graph_of_lists(
     ensures { Gives (λ builder. builder) (graph_of_lists seen.now (lists_seen lists)) result }
 {
     let mut builder = GraphBuilder::new(alloc);
-    add_elements(alloc, &mut builder, seen, Kind::Node, lists.nodes)?;
-    add_elements(alloc, &mut builder, seen, Kind::Edge, lists.edges)?;
-    add_elements(alloc, &mut builder, seen, Kind::Path, lists.paths)?;
+    add_elements(alloc, &mut builder, seen, Kind::Node, &lists.nodes)?;
+    add_elements(alloc, &mut builder, seen, Kind::Edge, &lists.edges)?;
+    add_elements(alloc, &mut builder, seen, Kind::Path, &lists.paths)?;
+    release(alloc, lists.nodes);
+    release(alloc, lists.edges);
+    release(alloc, lists.paths);
     Ok(builder)
 }
 
-// Adds the elements of a list, one after another. Each value is let go once it is read.
+// Adds the elements of a list, one after another.
 fn add_elements(
     alloc: Global,
     builder: &mut GraphBuilder,
     seen: &Coherence,
     kind: Kind,
-    values: Vec<Value>,
+    values: &[Value],
 ) -> Result<(), Failure<GraphRefusal>>
-    ensures { Gives (λ _. builder.new) (add_elements_of seen.now kind 0 builder.old (items_view values.items)) result }
+    ensures { Gives (λ _. builder.new) (add_elements_of seen.now kind 0 builder.old (items_view values.now)) result }
 {
     let mut index = 0;
     for value in values {
-        add_located(alloc, builder, seen, kind, index, &value)?;
+        add_located(alloc, builder, seen, kind, index, value)?;
         index += 1;
     }
     Ok(())

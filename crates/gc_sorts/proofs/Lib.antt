@@ -1,6 +1,6 @@
+pub mod FirstBreach
 pub mod Slots
 pub mod Places
-pub mod StateLoops
 pub mod LoadedSlots
 pub mod Rows
 pub mod UsePlaces

@@ -1,5 +1,5 @@
 -- Breaches of the sort rules: which rule is broken at which token, and which breach is the first.
-use Rattle.std.specs.Prelude.{◌≡◌, ℕ, Bool, ◌⊎◌, ◌&&◌, ◌||◌, Option, Some, None, nat_lt, nat_eq, if◌then◌else◌}
+use Rattle.std.specs.Prelude.{◌≡◌, ℕ, Bool, false, ◌⊎◌, ◌&&◌, ◌||◌, Option, Some, None, nat_lt, nat_eq, if◌then◌else◌}
 use Rattle.gc_sorts.specs.declared.breach.Breach.{Breach}
 use Rattle.gc_sorts.specs.declared.breach.SortRule.{SortRule}
 use Rattle.gc_sorts.specs.declared.breach.SortRule.TheVariants.{UnknownGraph, UnknownView, UnknownName, SortClash, TwiceBound, SharedOptional, AllNotProjected, LooseEdge, TwiceGrouped, ViewNeedsEdge, KOutOfRange, AggregateHere, ExistsForm, NameTaken, TooLarge}
@@ -45,6 +45,11 @@ broken_if is_broken rule token = if is_broken then broken rule token else none
 -- whether a breach comes before another: at an earlier token, or at the same one by a lower rule
 abbrev pub is_before : Breach → Breach → Bool
 is_before a b = nat_lt a.token b.token || (nat_eq a.token b.token && nat_lt (rule_number a.rule) (rule_number b.rule))
+
+-- the first of these: one of them that none of them comes before, or nothing where there are none
+abbrev pub IsFirst : Option Breach → Breaches → Type 0
+IsFirst None bs = (c : Breach) → IsAmong c bs → ⊥
+IsFirst (Some b) bs = IsAmong b bs × ((c : Breach) → IsAmong c bs → is_before c b ≡ false)
 
 -- the first of the breaches so far and one more
 abbrev pub earlier_of : Option Breach → Breach → Option Breach

@@ -1,8 +1,8 @@
 -- Limits: the states of an expression, the patterns of a block, the OPTIONAL blocks of a CONSTRUCT, and
 -- the number before SHORTEST.
-use Rattle.std.specs.Prelude.{ℕ, ℤ, pos, negsuc, ◌+◌, List, [], ◌∷◌, Bool, false, ◌&&◌, not, nat_lt, nat_le, Option, Some, None, slice_get}
-use Rattle.gc_regx.specs.Trees as regex
+use Rattle.std.specs.Prelude.{ℕ, ℤ, pos, negsuc, List, [], ◌∷◌, Bool, false, ◌&&◌, not, nat_lt, nat_le, Option, Some, None, slice_get}
 use Rattle.gc_regx.specs.Trees.{RegexTree, ARegex}
+use Rattle.gc_automata.specs.Automata.{automaton_of}
 use Rattle.gc_ast.specs.declared.pattern.CountAt.{CountAt}
 use Rattle.gc_ast.specs.Trees as tree
 use Rattle.gc_ast.specs.Trees.{Tree, TreeOf, Named, RowOf, ABlock, AnOptional, ALocated, APattern, AnElement, APropertyUse, APathBody}
@@ -10,23 +10,9 @@ use Rattle.gc_sorts.specs.declared.breach.SortRule.TheVariants.{KOutOfRange, Too
 use Rattle.gc_sorts.specs.Breaches.{Breaches, none, broken, broken_if}
 use Rattle.gc_sorts.specs.Uses.{all_of}
 
--- the number of states of an expression's automaton: two for each symbol, alternation and star
-unfoldable pub states : {k : regex.Kind} → RegexTree k → ℕ
-states (regex.Label l) = 2
-states (regex.Back l) = 2
-states regex.Any = 2
-states regex.AnyBack = 2
-states (regex.Test l) = 2
-states (regex.View v) = 2
-states (regex.Cat parts) = states parts
-states (regex.Alt parts) = 2 + states parts
-states (regex.Star part) = 2 + states part
-states regex.none = 0
-states (regex.more part parts) = states part + states parts
-
--- at most 1,024 states
+-- an expression's automaton has at most 1,024 states
 abbrev pub too_many_states : RegexTree ARegex → ℕ → Breaches
-too_many_states r regex_at = broken_if (nat_lt 1024 (states r)) TooLarge regex_at
+too_many_states r regex_at = broken_if (nat_lt 1024 (automaton_of r).states) TooLarge regex_at
 
 -- the number before SHORTEST is 1 to 1,000
 abbrev pub is_in_range : ℤ → Bool

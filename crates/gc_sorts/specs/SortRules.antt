@@ -164,7 +164,10 @@ breaches s tree.none = none
 breaches s (tree.more t ts) = both (breaches s t) (breaches (behind s t) ts)
 breaches s tree = none
 
--- the first breach of the statements of a file over graphs of these names
+-- what the statements of a file over graphs of these names break
+abbrev pub file_breaches : List (List ℕ) → Tree (RowOf AStatement) → Breaches
+file_breaches graphs statements = breaches (record { loaded = graphs; declared = []; views = []; uses = [] }) statements
+
+-- the first of their breaches
 abbrev pub first_breach : List (List ℕ) → Tree (RowOf AStatement) → Option Breach
-first_breach graphs statements =
-    first_among None (breaches (record { loaded = graphs; declared = []; views = []; uses = [] }) statements)
+first_breach graphs statements = first_among None (file_breaches graphs statements)

@@ -5,6 +5,7 @@
 
 mod basics;
 mod breach;
+mod checked;
 mod checker;
 mod checking;
 mod constructs;
@@ -13,6 +14,7 @@ mod expressions;
 mod form;
 mod graphs;
 mod index;
+mod laws;
 mod link;
 mod loose;
 mod makes;
@@ -33,8 +35,9 @@ mod uses;
 mod variables;
 
 pub use breach::{Breach, SortRule};
-pub use checking::{Checked, check};
+pub use checked::Checked;
+pub use checking::check;
+pub use laws::the_first_breach_is_the_first;
 pub use refusal::SortRefusal;
-pub use sizes::state_count;
 pub use sort::Sort;
 pub use statements::first_breach;

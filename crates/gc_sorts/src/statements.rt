@@ -1,8 +1,8 @@
 ghost use Rattle.std.specs.Prelude.{◌≡◌, None, map, IfOk, OnOk};
 ghost use Rattle.gc_ast.specs.QueryViews.{statement_tree, file_trees};
 ghost use Rattle.gc_ast.specs.Trees.{row};
-ghost use Rattle.gc_sorts.specs.Breaches.{first_among};
-ghost use Rattle.gc_sorts.specs.SortRules.{breaches, behind, behind_all, first_breach};
+ghost use Rattle.gc_sorts.specs.Breaches.{first_among, IsFirst};
+ghost use Rattle.gc_sorts.specs.SortRules.{breaches, behind, behind_all, file_breaches, first_breach};
 
 use crate::breach::Breach;
 use crate::checker::Checker;
@@ -49,9 +49,11 @@ fn statements(
     Ok(found)
 }
 
-/// The first breach of the sort rules in a file over graphs of these names, if there is one.
+/// The first breach of the sort rules in a file over graphs of these names, if there is one: none comes
+/// before it.
 pub fn first_breach(alloc: Global, file: &File, graphs: &NameList) -> Result<Option<Breach>, Memory>
-    ensures { IfOk result (λ first. first ≡ first_breach graphs.now (row (file_trees file.now))) }
+    ensures breach { IfOk result (λ first. first ≡ first_breach graphs.now (row (file_trees file.now))) }
+    ensures first { IfOk result (λ first. IsFirst first (file_breaches graphs.now (row (file_trees file.now)))) }
 {
     let mut checker = Checker::of(alloc, &file.names, graphs)?;
     statements(&mut checker, None, &file.statements)

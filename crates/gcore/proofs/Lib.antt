@@ -2,6 +2,7 @@ pub mod CommandLaws
 pub mod GraphsRead
 pub mod RunLaws
 pub mod QueryFileLaws
+pub mod SortedFiles
 pub mod TextPlaces
 pub mod ThinTreeLaws
 pub mod TreeParts

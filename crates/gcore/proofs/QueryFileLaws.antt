@@ -9,7 +9,7 @@ use Rattle.gc_lex.specs.declared.refusal.LexRefusal.{LexRefusal}
 use Rattle.gc_lex.specs.declared.refusal.LexRefusal.TheVariants as lex
 use Rattle.gc_lex.specs.declared.token.Token.{Token}
 use Rattle.gc_lex.specs.Lexis.{TokenList, lexed}
-use Rattle.gc_ast.specs.Trees.{Tree, AStatement}
+use Rattle.gc_ast.specs.Trees.{Tree, AStatement, row}
 use Rattle.gc_grammar.specs.Queries.{SpellsFile}
 use Rattle.gc_grammar.specs.Readers.{Reading, Got, Stuck}
 use Rattle.gc_parse.specs.declared.refusal.ParseRefusal.{ParseRefusal}
@@ -18,13 +18,16 @@ use Rattle.gc_parse.specs.Depths.{IsDepthFault, IsTooDeep, is_too_deep, first_fr
 use Rattle.gc_readers.specs.Refusals.{IsRefusedAt}
 use Rattle.gc_readers.specs.QueryReaders.{file_reading}
 use Rattle.gc_parse.specs.Parses.{parsed, read_whole, unless_deep}
-use Rattle.gc_readers.proofs.FileRight.{file_complete, file_refused}
-use Rattle.gc_parse.proofs.Prefixes.{none_at_first}
+use Rattle.gc_readers.proofs.FileRight.{file_complete, file_refused, file_sound}
+use Rattle.gc_parse.proofs.Prefixes.{none_at_all, none_at_first}
+use Rattle.gc_sorts.specs.declared.breach.Breach.{Breach}
+use Rattle.gc_sorts.specs.declared.breach.SortRule.{SortRule}
+use Rattle.gc_sorts.specs.SortRules.{first_breach}
 use Rattle.gcore.specs.Outcomes.{built, label_of, then_due}
-use Rattle.gcore.specs.QueryFiles.{first_place, statements_in, statements_at, token_place}
+use Rattle.gcore.specs.QueryFiles.{breach_place, first_place, sorted_at, statements_in, statements_at, token_place, unless_broken}
 use Rattle.gcore.specs.ThinTrees.{thin_label}
 use Rattle.gcore.specs.declared.stop.Stop.{Stop}
-use Rattle.gcore.specs.declared.stop.Stop.TheVariants.{Text}
+use Rattle.gcore.specs.declared.stop.Stop.TheVariants.{Sorts, Text}
 use Rattle.gcore.specs.declared.text_refusal.TextRefusal.{TextRefusal}
 use Rattle.gcore.specs.declared.text_refusal.TextRefusal.TheVariants.{TooDeep, Syntax}
 use Rattle.gcore.proofs.TextPlaces.{places_count, item_there, deep_within}
@@ -57,6 +60,16 @@ first_some test from (suc count) k h = by (λ found. first_some test (suc from) 
         let same = same_some from k found in
         (subst (λ n. test n ≡ true) same is, λ n le less. absurd (omega (arith, same, le, less)))
     by later false is found = also_first test from k is (later found)
+
+-- where no number is found, each of them fails
+none_found : (test : ℕ → Bool) (from count n : ℕ) → first_from test from count ≡ None → from ≤ n → n < from + count → test n ≡ false
+none_found test from zero n h le less = absurd (omega (arith, le, less))
+none_found test from (suc count) n h le less = by (λ found later. none_found test (suc from) count n found later (omega (arith, less))) (test from) refl h (eq-or-lt_of_le le)
+  where
+    by : (first_from test (suc from) count ≡ None → suc from ≤ n → test n ≡ false) → (b : Bool) → test from ≡ b → (if b then Some from else first_from test (suc from) count) ≡ None → (from ≡ n) ⊎ (from < n) → test n ≡ false
+    by later true is found at = absurd (cc)
+    by later false is found (inl same) = subst (λ m. test m ≡ false) same is
+    by later false is found (inr after) = later found (omega (arith, after))
 
 -- the test of brackets that are too deep
 deep : (ts : List Token) → is_too_deep ts ≡ true → IsTooDeep ts
@@ -123,6 +136,31 @@ parsed_refused ts k h = by (depth_fault_in ts) h
     by None e = refused_reading ts k (file_reading (length ts + 1) ts) refl e
     by (Some j) e = absurd (cc)
 
+-- brackets that are not too deep, and a reading of the whole list
+no_fault_in : (ts : List Token) → depth_fault_in ts ≡ None → IsDepthFault ts None
+no_fault_in ts h = none_at_all ts each
+  where
+    each : (n : ℕ) → n ≤ length ts → IsTooDeep (take n ts) → ⊥
+    each zero le is = none_at_first ts zero (omega arith) is
+    each (suc n) le is =
+        not_deep (take (suc n) ts)
+        (subst (λ m. is_too_deep (take m ts) ≡ false) {x = n + 1} {y = suc n} (omega arith) (none_found (λ k. is_too_deep (take (k + 1) ts)) 0 (length ts) n h (omega arith) (omega (arith, le)))) is
+
+spelled_reading : (ts : List Token) (statements : List (Tree AStatement)) (r : Reading (List (Tree AStatement))) → file_reading (length ts + 1) ts ≡ r → read_whole r ≡ Ok statements → SpellsFile ts statements
+spelled_reading ts statements (Got others end rest) is h = subst (SpellsFile ts) same (file_sound (length ts + 1) ts rest others end (omega arith) is).1
+  where
+    same : others ≡ statements
+    same = cc
+spelled_reading ts statements (Stuck j) is h = absurd (cc)
+
+parsed_spells : (ts : List Token) (statements : List (Tree AStatement)) → parsed ts ≡ Ok statements → IsDepthFault ts None × SpellsFile ts statements
+unfolding parsed
+parsed_spells ts statements h = by (depth_fault_in ts) refl h
+  where
+    by : (o : Option ℕ) → depth_fault_in ts ≡ o → unless_deep o (read_whole (file_reading (length ts + 1) ts)) ≡ Ok statements → IsDepthFault ts None × SpellsFile ts statements
+    by None is e = (no_fault_in ts is, spelled_reading ts statements (file_reading (length ts + 1) ts) refl e)
+    by (Some k) is e = absurd (cc)
+
 -- what statements ask for
 abbrev asked : List (Tree AStatement) → Result (List ℕ) Stop
 asked statements = built (thin_label statements)
@@ -131,62 +169,115 @@ not_text : (o : Option (List ℕ)) (refusal : TextRefusal) → built o ≡ Err (
 not_text None refusal h = cc
 not_text (Some label) refusal h = cc
 
-deep_parse : (places : List Place) (r : Result (List (Tree AStatement)) ParseRefusal) (place : Place) → then_due (statements_at places r) asked ≡ Err (Text (TooDeep place))
-    → (k : ℕ) × (r ≡ Err (parse.TooDeep k)) × (token_place places k ≡ place)
-deep_parse places (Ok statements) place h = absurd (not_text (thin_label statements) (TooDeep place) h)
-deep_parse places (Err (parse.TooDeep k)) place h = (k, refl, cc)
-deep_parse places (Err (parse.Syntax k)) place h = absurd (cc)
-deep_parse places (Err parse.Memory) place h = absurd (cc)
+not_sorts : (o : Option (List ℕ)) (rule : SortRule) (place : Place) → built o ≡ Err (Sorts rule place) → ⊥
+not_sorts None rule place h = cc
+not_sorts (Some label) rule place h = cc
 
-refused_parse : (places : List Place) (r : Result (List (Tree AStatement)) ParseRefusal) (place : Place) → then_due (statements_at places r) asked ≡ Err (Text (Syntax place))
-    → (k : ℕ) × (r ≡ Err (parse.Syntax k)) × (token_place places k ≡ place)
-refused_parse places (Ok statements) place h = absurd (not_text (thin_label statements) (Syntax place) h)
-refused_parse places (Err (parse.TooDeep k)) place h = absurd (cc)
-refused_parse places (Err (parse.Syntax k)) place h = (k, refl, cc)
-refused_parse places (Err parse.Memory) place h = absurd (cc)
+sorted_no_text : (places : List Place) (statements : List (Tree AStatement)) (found : Option Breach) (refusal : TextRefusal) → then_due (unless_broken places statements found) asked ≡ Err (Text refusal) → ⊥
+sorted_no_text places statements None refusal h = not_text (thin_label statements) refusal h
+sorted_no_text places statements (Some breach) refusal h = cc
 
-deep_tokens : (l : Result TokenList LexRefusal) (place : Place) → then_due (statements_in l) asked ≡ Err (Text (TooDeep place))
-    → (list : TokenList) × (l ≡ Ok list) × ((k : ℕ) × (parsed list.tokens ≡ Err (parse.TooDeep k)) × (token_place list.places k ≡ place))
-deep_tokens (Ok list) place h = (list, refl, deep_parse list.places (parsed list.tokens) place h)
-deep_tokens (Err (lex.NotUtf8 p)) place h = absurd (cc)
-deep_tokens (Err (lex.BadCharacter p)) place h = absurd (cc)
-deep_tokens (Err (lex.OpenText p)) place h = absurd (cc)
-deep_tokens (Err (lex.NumberTooLarge p)) place h = absurd (cc)
-deep_tokens (Err lex.Memory) place h = absurd (cc)
+module _ (graphs : List (List ℕ)) where
+  deep_parse : (places : List Place) (r : Result (List (Tree AStatement)) ParseRefusal) (place : Place) → then_due (statements_at graphs places r) asked ≡ Err (Text (TooDeep place))
+      → (k : ℕ) × (r ≡ Err (parse.TooDeep k)) × (token_place places k ≡ place)
+  deep_parse places (Ok statements) place h = absurd (sorted_no_text places statements (first_breach graphs (row statements)) (TooDeep place) h)
+  deep_parse places (Err (parse.TooDeep k)) place h = (k, refl, cc)
+  deep_parse places (Err (parse.Syntax k)) place h = absurd (cc)
+  deep_parse places (Err parse.Memory) place h = absurd (cc)
 
-refused_tokens : (l : Result TokenList LexRefusal) (place : Place) → then_due (statements_in l) asked ≡ Err (Text (Syntax place))
-    → (list : TokenList) × (l ≡ Ok list) × ((k : ℕ) × (parsed list.tokens ≡ Err (parse.Syntax k)) × (token_place list.places k ≡ place))
-refused_tokens (Ok list) place h = (list, refl, refused_parse list.places (parsed list.tokens) place h)
-refused_tokens (Err (lex.NotUtf8 p)) place h = absurd (cc)
-refused_tokens (Err (lex.BadCharacter p)) place h = absurd (cc)
-refused_tokens (Err (lex.OpenText p)) place h = absurd (cc)
-refused_tokens (Err (lex.NumberTooLarge p)) place h = absurd (cc)
-refused_tokens (Err lex.Memory) place h = absurd (cc)
+  refused_parse : (places : List Place) (r : Result (List (Tree AStatement)) ParseRefusal) (place : Place) → then_due (statements_at graphs places r) asked ≡ Err (Text (Syntax place))
+      → (k : ℕ) × (r ≡ Err (parse.Syntax k)) × (token_place places k ≡ place)
+  refused_parse places (Ok statements) place h = absurd (sorted_no_text places statements (first_breach graphs (row statements)) (Syntax place) h)
+  refused_parse places (Err (parse.TooDeep k)) place h = absurd (cc)
+  refused_parse places (Err (parse.Syntax k)) place h = (k, refl, cc)
+  refused_parse places (Err parse.Memory) place h = absurd (cc)
 
--- the laws of query files
-pub asked_as_spelled : (text : List ℕ) (list : TokenList) (statements : List (Tree AStatement)) → lexed text ≡ Ok list → IsDepthFault list.tokens None → SpellsFile list.tokens statements
-    → label_of text ≡ built (thin_label statements)
-asked_as_spelled text list statements h none spelled =
-    ap (λ l. then_due (statements_in l) asked) h ∙ ap (λ r. then_due (statements_at list.places r) asked) (parsed_spelled list.tokens statements none spelled)
+  breach_of : (places : List Place) (statements : List (Tree AStatement)) (found : Option Breach) (rule : SortRule) (place : Place) → then_due (unless_broken places statements found) asked ≡ Err (Sorts rule place)
+      → (breach : Breach) × (found ≡ Some breach) × (rule ≡ breach.rule) × (place ≡ breach_place places breach)
+  breach_of places statements None rule place h = absurd (not_sorts (thin_label statements) rule place h)
+  breach_of places statements (Some breach) rule place h = (breach, refl, cc, cc)
 
-pub asked_too_deep : (text : List ℕ) (place : Place) → label_of text ≡ Err (Text (TooDeep place))
-    → (list : TokenList) × (k : ℕ) × (lexed text ≡ Ok list) × (slice_get list.places k ≡ Some place) × IsDepthFault list.tokens (Some k)
-asked_too_deep text place h =
-    let found = deep_tokens (lexed text) place h in
-    let list = found.0 in
-    let k = found.2.0 in
-    let fault = parsed_deep list.tokens k found.2.1 in
-    let within = deep_within list.tokens k fault in
-    let count = places_count text list found.1 in
-    (list, k, found.1, item_there list.places k place first_place (omega (arith, count, within)) found.2.2, fault)
+  broken_parse : (places : List Place) (r : Result (List (Tree AStatement)) ParseRefusal) (rule : SortRule) (place : Place) → then_due (statements_at graphs places r) asked ≡ Err (Sorts rule place)
+      → (statements : List (Tree AStatement)) × (breach : Breach) × (r ≡ Ok statements) × (first_breach graphs (row statements) ≡ Some breach) × (rule ≡ breach.rule) × (place ≡ breach_place places breach)
+  broken_parse places (Ok statements) rule place h =
+      let found = breach_of places statements (first_breach graphs (row statements)) rule place h in
+      (statements, found.0, refl, found.1, found.2, found.3)
+  broken_parse places (Err (parse.TooDeep k)) rule place h = absurd (cc)
+  broken_parse places (Err (parse.Syntax k)) rule place h = absurd (cc)
+  broken_parse places (Err parse.Memory) rule place h = absurd (cc)
 
-pub asked_refused : (text : List ℕ) (place : Place) → label_of text ≡ Err (Text (Syntax place))
-    → (list : TokenList) × (k : ℕ) × (lexed text ≡ Ok list) × (slice_get list.places k ≡ Some place) × IsRefusedAt SpellsFile list.tokens k
-asked_refused text place h =
-    let found = refused_tokens (lexed text) place h in
-    let list = found.0 in
-    let k = found.2.0 in
-    let refused = parsed_refused list.tokens k found.2.1 in
-    let within = refused.0 in
-    let count = places_count text list found.1 in
-    (list, k, found.1, item_there list.places k place first_place (omega (arith, count, within)) found.2.2, refused)
+  deep_tokens : (l : Result TokenList LexRefusal) (place : Place) → then_due (statements_in graphs l) asked ≡ Err (Text (TooDeep place))
+      → (list : TokenList) × (l ≡ Ok list) × ((k : ℕ) × (parsed list.tokens ≡ Err (parse.TooDeep k)) × (token_place list.places k ≡ place))
+  deep_tokens (Ok list) place h = (list, refl, deep_parse list.places (parsed list.tokens) place h)
+  deep_tokens (Err (lex.NotUtf8 p)) place h = absurd (cc)
+  deep_tokens (Err (lex.BadCharacter p)) place h = absurd (cc)
+  deep_tokens (Err (lex.OpenText p)) place h = absurd (cc)
+  deep_tokens (Err (lex.NumberTooLarge p)) place h = absurd (cc)
+  deep_tokens (Err lex.Memory) place h = absurd (cc)
+
+  refused_tokens : (l : Result TokenList LexRefusal) (place : Place) → then_due (statements_in graphs l) asked ≡ Err (Text (Syntax place))
+      → (list : TokenList) × (l ≡ Ok list) × ((k : ℕ) × (parsed list.tokens ≡ Err (parse.Syntax k)) × (token_place list.places k ≡ place))
+  refused_tokens (Ok list) place h = (list, refl, refused_parse list.places (parsed list.tokens) place h)
+  refused_tokens (Err (lex.NotUtf8 p)) place h = absurd (cc)
+  refused_tokens (Err (lex.BadCharacter p)) place h = absurd (cc)
+  refused_tokens (Err (lex.OpenText p)) place h = absurd (cc)
+  refused_tokens (Err (lex.NumberTooLarge p)) place h = absurd (cc)
+  refused_tokens (Err lex.Memory) place h = absurd (cc)
+
+  broken_tokens : (l : Result TokenList LexRefusal) (rule : SortRule) (place : Place) → then_due (statements_in graphs l) asked ≡ Err (Sorts rule place)
+      → (list : TokenList) × (statements : List (Tree AStatement)) × (breach : Breach) × (l ≡ Ok list) × (parsed list.tokens ≡ Ok statements) × (first_breach graphs (row statements) ≡ Some breach) × (rule ≡ breach.rule) × (place ≡ breach_place list.places breach)
+  broken_tokens (Ok list) rule place h =
+      let found = broken_parse list.places (parsed list.tokens) rule place h in
+      (list, found.0, found.1, refl, found.2, found.3, found.4, found.5)
+  broken_tokens (Err (lex.NotUtf8 p)) rule place h = absurd (cc)
+  broken_tokens (Err (lex.BadCharacter p)) rule place h = absurd (cc)
+  broken_tokens (Err (lex.OpenText p)) rule place h = absurd (cc)
+  broken_tokens (Err (lex.NumberTooLarge p)) rule place h = absurd (cc)
+  broken_tokens (Err lex.Memory) rule place h = absurd (cc)
+
+  -- the statements that are spelled are tested against the sort rules
+  asked_as_sorted : (text : List ℕ) (list : TokenList) (statements : List (Tree AStatement)) → lexed text ≡ Ok list → IsDepthFault list.tokens None → SpellsFile list.tokens statements
+      → label_of graphs text ≡ then_due (sorted_at graphs list.places statements) asked
+  asked_as_sorted text list statements h none spelled =
+      ap (λ l. then_due (statements_in graphs l) asked) h ∙ ap (λ r. then_due (statements_at graphs list.places r) asked) (parsed_spelled list.tokens statements none spelled)
+
+  -- the laws of query files
+  pub asked_as_spelled : (text : List ℕ) (list : TokenList) (statements : List (Tree AStatement)) → lexed text ≡ Ok list → IsDepthFault list.tokens None → SpellsFile list.tokens statements
+      → first_breach graphs (row statements) ≡ None → label_of graphs text ≡ built (thin_label statements)
+  asked_as_spelled text list statements h none spelled sorted =
+      asked_as_sorted text list statements h none spelled ∙ ap (λ found. then_due (unless_broken list.places statements found) asked) sorted
+
+  pub told_as_broken : (text : List ℕ) (list : TokenList) (statements : List (Tree AStatement)) (breach : Breach) → lexed text ≡ Ok list → IsDepthFault list.tokens None → SpellsFile list.tokens statements
+      → first_breach graphs (row statements) ≡ Some breach → label_of graphs text ≡ Err (Sorts breach.rule (breach_place list.places breach))
+  told_as_broken text list statements breach h none spelled broken =
+      asked_as_sorted text list statements h none spelled ∙ ap (λ found. then_due (unless_broken list.places statements found) asked) broken
+
+  pub broken_as_told : (text : List ℕ) (rule : SortRule) (place : Place) → label_of graphs text ≡ Err (Sorts rule place)
+      → (list : TokenList) × (statements : List (Tree AStatement)) × (breach : Breach) × (lexed text ≡ Ok list) × IsDepthFault list.tokens None × SpellsFile list.tokens statements
+      × (first_breach graphs (row statements) ≡ Some breach) × (rule ≡ breach.rule) × (place ≡ breach_place list.places breach)
+  broken_as_told text rule place h =
+      let found = broken_tokens (lexed text) rule place h in
+      let spells = parsed_spells found.0.tokens found.1 found.4 in
+      (found.0, found.1, found.2, found.3, spells.0, spells.1, found.5, found.6, found.7)
+
+  pub asked_too_deep : (text : List ℕ) (place : Place) → label_of graphs text ≡ Err (Text (TooDeep place))
+      → (list : TokenList) × (k : ℕ) × (lexed text ≡ Ok list) × (slice_get list.places k ≡ Some place) × IsDepthFault list.tokens (Some k)
+  asked_too_deep text place h =
+      let found = deep_tokens (lexed text) place h in
+      let list = found.0 in
+      let k = found.2.0 in
+      let fault = parsed_deep list.tokens k found.2.1 in
+      let within = deep_within list.tokens k fault in
+      let count = places_count text list found.1 in
+      (list, k, found.1, item_there list.places k place first_place (omega (arith, count, within)) found.2.2, fault)
+
+  pub asked_refused : (text : List ℕ) (place : Place) → label_of graphs text ≡ Err (Text (Syntax place))
+      → (list : TokenList) × (k : ℕ) × (lexed text ≡ Ok list) × (slice_get list.places k ≡ Some place) × IsRefusedAt SpellsFile list.tokens k
+  asked_refused text place h =
+      let found = refused_tokens (lexed text) place h in
+      let list = found.0 in
+      let k = found.2.0 in
+      let refused = parsed_refused list.tokens k found.2.1 in
+      let within = refused.0 in
+      let count = places_count text list found.1 in
+      (list, k, found.1, item_there list.places k place first_place (omega (arith, count, within)) found.2.2, refused)

@@ -7,14 +7,14 @@ use Rattle.gc_base.specs.Files.{Files}
 use Rattle.gcore.specs.GraphLines.{IsHeld}
 use Rattle.gcore.specs.Lines.{line_of, status_of}
 use Rattle.gcore.specs.Outcomes.{outcome, text_of, graphs_due}
-use Rattle.gcore.specs.TextLines.{IsHeldText}
+use Rattle.gcore.specs.TextLines.{IsHeldPlace, IsHeldText}
 use Rattle.gcore.specs.declared.command.Command.{Command}
 use Rattle.gcore.specs.declared.command.Command.TheVariants.{Run, Cert, Explain, Check, Make}
 use Rattle.gcore.specs.declared.pair.Pair.{Pair}
 use Rattle.gcore.specs.declared.status.Status.{Status}
 use Rattle.gcore.specs.declared.status.Status.TheVariants.{Done}
 use Rattle.gcore.specs.declared.stop.Stop.{Stop}
-use Rattle.gcore.specs.declared.stop.Stop.TheVariants.{Usage, Unread, TooLarge, Refused, Text, NotBuilt, Unwritten, OutOfMemory}
+use Rattle.gcore.specs.declared.stop.Stop.TheVariants.{Usage, Unread, TooLarge, Refused, Text, Sorts, NotBuilt, Unwritten, OutOfMemory}
 
 -- a sink before and after a call: its count of faults, and what it took, where it tells that
 pub record Change : Type 0 where
@@ -125,6 +125,7 @@ StopsFor call (Unread file) = IsReached call file × IsUnread call file × Gains
 StopsFor call (TooLarge file) = IsReached call file × IsDue call (TooLarge file) × GainsNothing call.out
 StopsFor call (Refused refusal file) = IsReachedGraph call file × IsDue call (Refused refusal file) × GainsNothing call.out
 StopsFor call (Text refusal) = IsReachedQuery call × IsDue call (Text refusal) × GainsNothing call.out
+StopsFor call (Sorts rule place) = IsReachedQuery call × IsDue call (Sorts rule place) × GainsNothing call.out
 StopsFor call NotBuilt = IsSome call.command × IsDue call NotBuilt × GainsNothing call.out
 StopsFor call Unwritten = IsSome call.command × Failed call.out × GainsDuePrefix call
 StopsFor call OutOfMemory = GainsDuePrefix call
@@ -172,6 +173,7 @@ MayStop command (Unread file) = Contains (named_files command) file
 MayStop command (TooLarge file) = Contains (named_files command) file
 MayStop command (Refused refusal file) = Contains (graph_files command) file × IsHeld refusal
 MayStop command (Text refusal) = IsSomeAnd command HasQuery × IsHeldText refusal
+MayStop command (Sorts rule place) = IsSomeAnd command HasQuery × IsHeldPlace place
 MayStop command stop = ⊤
 
 -- a told room of `out` holds the text that is due, for which the files have to be told

@@ -5,11 +5,11 @@ use Rattle.gc_catalog.specs.NamedGraphs.{NamedGraphs}
 use Rattle.gcore.specs.Endings.{IsTurnOfGraph}
 use Rattle.gcore.specs.GraphLines.{IsHeld}
 use Rattle.gcore.specs.Outcomes.{graphs_due}
-use Rattle.gcore.specs.TextLines.{IsHeldText}
+use Rattle.gcore.specs.TextLines.{IsHeldPlace, IsHeldText}
 use Rattle.gcore.specs.Steps.{Reading}
 use Rattle.gcore.specs.declared.pair.Pair.{Pair}
 use Rattle.gcore.specs.declared.stop.Stop.{Stop}
-use Rattle.gcore.specs.declared.stop.Stop.TheVariants.{Usage, Unread, TooLarge, Refused, Text, NotBuilt, Unwritten, OutOfMemory}
+use Rattle.gcore.specs.declared.stop.Stop.TheVariants.{Usage, Unread, TooLarge, Refused, Text, Sorts, NotBuilt, Unwritten, OutOfMemory}
 
 -- where the files are told, this stop is due
 abbrev pub IsDueFor : Reading → List Pair → Stop → Type 0
@@ -24,6 +24,7 @@ StopsReadingGraphs reading pairs (Unread file) =
 StopsReadingGraphs reading pairs (TooLarge file) = IsTurnOfGraph reading.files pairs file × IsDueFor reading pairs (TooLarge file)
 StopsReadingGraphs reading pairs (Refused refusal file) = IsTurnOfGraph reading.files pairs file × IsDueFor reading pairs (Refused refusal file)
 StopsReadingGraphs reading pairs (Text refusal) = ⊥
+StopsReadingGraphs reading pairs (Sorts rule place) = ⊥
 StopsReadingGraphs reading pairs NotBuilt = IsDueFor reading pairs NotBuilt
 StopsReadingGraphs reading pairs Unwritten = ⊥
 StopsReadingGraphs reading pairs OutOfMemory = ⊤
@@ -37,4 +38,5 @@ ReadsGraphs reading pairs (Err stop) = StopsReadingGraphs reading pairs stop
 abbrev pub IsHeldStop : Stop → Type 0
 IsHeldStop (Refused refusal file) = IsHeld refusal
 IsHeldStop (Text refusal) = IsHeldText refusal
+IsHeldStop (Sorts rule place) = IsHeldPlace place
 IsHeldStop stop = ⊤

@@ -6,7 +6,8 @@ pub mod Lines
 pub mod MakeLines
 pub mod Outcomes
 pub mod Pairs
-pub mod Steps
 pub mod QueryFiles
+pub mod SortLines
+pub mod Steps
 pub mod TextLines
 pub mod ThinTrees

@@ -4,12 +4,14 @@ use Rattle.std.specs.Fmt.{decimal}
 use Rattle.gc_base.specs.declared.place.Place.{Place}
 use Rattle.gc_json.specs.declared.refusal.GraphRefusal.{GraphRefusal}
 use Rattle.gc_json.specs.declared.refusal.Spot.{Spot}
+use Rattle.gc_sorts.specs.declared.breach.SortRule.{SortRule}
 use Rattle.gcore.specs.GraphLines.{refusal_text, spot_text}
+use Rattle.gcore.specs.SortLines.{rule_text}
 use Rattle.gcore.specs.TextLines.{place_text, text_refusal_text}
 use Rattle.gcore.specs.declared.status.Status.{Status}
 use Rattle.gcore.specs.declared.status.Status.TheVariants as status
 use Rattle.gcore.specs.declared.stop.Stop.{Stop}
-use Rattle.gcore.specs.declared.stop.Stop.TheVariants.{Usage, Unread, TooLarge, Refused, Text, NotBuilt, Unwritten, OutOfMemory}
+use Rattle.gcore.specs.declared.stop.Stop.TheVariants.{Usage, Unread, TooLarge, Refused, Text, Sorts, NotBuilt, Unwritten, OutOfMemory}
 use Rattle.gcore.specs.declared.text_refusal.TextRefusal.{TextRefusal}
 
 -- a line begins with the program's name and ends with a line feed
@@ -24,6 +26,10 @@ refusal_line refusal file = line (refusal_text refusal ++ (codes " in " ++ file)
 abbrev pub text_line : TextRefusal → List ℕ
 text_line refusal = line (text_refusal_text refusal)
 
+-- the line of a query file that breaks a sort rule
+abbrev pub sort_line : SortRule → Place → List ℕ
+sort_line rule place = line (place_text (rule_text rule) place)
+
 -- the line of each stop
 abbrev pub line_of : Stop → List ℕ
 line_of Usage = line (codes "usage")
@@ -31,6 +37,7 @@ line_of (Unread file) = line (codes "cannot read " ++ file)
 line_of (TooLarge file) = line (codes "too large " ++ file)
 line_of (Refused refusal file) = refusal_line refusal file
 line_of (Text refusal) = text_line refusal
+line_of (Sorts rule place) = sort_line rule place
 line_of NotBuilt = line (codes "not built")
 line_of Unwritten = line (codes "cannot write")
 line_of OutOfMemory = line (codes "out of memory")
@@ -61,6 +68,7 @@ status_of (Unread file) = status.Read
 status_of (TooLarge file) = status.Size
 status_of (Refused refusal file) = status.Graph
 status_of (Text refusal) = status.Text
+status_of (Sorts rule place) = status.Sorts
 status_of NotBuilt = status.NotBuilt
 status_of Unwritten = status.Write
 status_of OutOfMemory = status.Memory
@@ -70,6 +78,7 @@ abbrev pub code_of : Status → ℕ
 code_of status.Done = 0
 code_of status.Usage = 2
 code_of status.Text = 3
+code_of status.Sorts = 4
 code_of status.Graph = 5
 code_of status.Read = 6
 code_of status.Write = 7

@@ -1,5 +1,5 @@
 -- The outcome of a call: the text due on standard output, or the stop that is due.
-use Rattle.std.specs.Prelude.{ℕ, List, [], ◌∷◌, ◌++◌, length, nat_lt, if◌then◌else◌, Some, None, Option, Result, Ok, Err}
+use Rattle.std.specs.Prelude.{ℕ, List, [], ◌∷◌, ◌++◌, length, map, nat_lt, if◌then◌else◌, Some, None, Option, Result, Ok, Err}
 use Rattle.gc_base.specs.Files.{Files, file_of}
 use Rattle.gc_spec.specs.Coherence.{shapes_of}
 use Rattle.gc_spec.specs.PropertyGraph.{PropertyGraph}
@@ -58,13 +58,17 @@ abbrev pub built : {A : Type 0} → Option A → Result A Stop
 built None = Err NotBuilt
 built (Some x) = Ok x
 
--- the label that the bytes of a query file ask for
-abbrev pub label_of : List ℕ → Result (List ℕ) Stop
-label_of bytes = then_due (statements_of bytes) (λ statements. built (thin_label statements))
+-- the label that the bytes of a query file ask for, over graphs of these names
+abbrev pub label_of : List (List ℕ) → List ℕ → Result (List ℕ) Stop
+label_of graphs bytes = then_due (statements_of graphs bytes) (λ statements. built (thin_label statements))
 
 -- the label of a query file
-abbrev pub label_due : Files → List ℕ → Result (List ℕ) Stop
-label_due files name = then_due (file_due files name query_limit) label_of
+abbrev pub label_due : List (List ℕ) → Files → List ℕ → Result (List ℕ) Stop
+label_due graphs files name = then_due (file_due files name query_limit) (label_of graphs)
+
+-- the names of graph files, in the order of the words
+abbrev pub graph_names : List Pair → List (List ℕ)
+graph_names pairs = map (λ (p : Pair). p.name) pairs
 
 -- the text of the nodes of a label, and a line feed
 unfoldable pub printed : PropertyGraph → List ℕ → List ℕ
@@ -77,7 +81,7 @@ first_printed (g ∷ gs) label = Ok (printed g label)
 
 -- first the graph files, then the query file, then the answer
 abbrev pub run_due : Files → List ℕ → List Pair → Result (List ℕ) Stop
-run_due files query pairs = then_due (graphs_due files [] pairs) (λ gs. then_due (label_due files query) (first_printed gs))
+run_due files query pairs = then_due (graphs_due files [] pairs) (λ gs. then_due (label_due (graph_names pairs) files query) (first_printed gs))
 
 -- what a command gives; those that are not built yet stop directly
 abbrev pub command_due : Files → Command → Result (List ℕ) Stop

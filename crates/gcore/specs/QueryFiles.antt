@@ -1,18 +1,20 @@
--- The statements of a query file, by its bytes, or what is wrong with it first.
-use Rattle.std.specs.Prelude.{◌≡◌, ℕ, List, slice_get, Result, Ok, Err, ⊤}
+-- The statements of a query file, by its bytes and the names of the graphs, or what is wrong with it first.
+use Rattle.std.specs.Prelude.{◌≡◌, ℕ, List, [], ◌∷◌, slice_get, Option, Some, None, Result, Ok, Err, ⊤}
 use Rattle.std.specs.Option.{unwrap_or}
 use Rattle.gc_base.specs.declared.place.Place.{Place}
 use Rattle.gc_lex.specs.declared.refusal.LexRefusal.{LexRefusal}
 use Rattle.gc_lex.specs.declared.refusal.LexRefusal.TheVariants as lex
 use Rattle.gc_lex.specs.Lexis.{TokenList, lexed}
-use Rattle.gc_ast.specs.declared.file.File.{File}
 use Rattle.gc_ast.specs.QueryViews.{file_trees}
-use Rattle.gc_ast.specs.Trees.{Tree, AStatement}
+use Rattle.gc_ast.specs.Trees.{Tree, AStatement, row}
 use Rattle.gc_parse.specs.declared.refusal.ParseRefusal.{ParseRefusal}
 use Rattle.gc_parse.specs.declared.refusal.ParseRefusal.TheVariants as parse
 use Rattle.gc_parse.specs.Parses.{parsed}
+use Rattle.gc_sorts.specs.declared.breach.Breach.{Breach}
+use Rattle.gc_sorts.specs.declared.checking.Checked.{Checked}
+use Rattle.gc_sorts.specs.SortRules.{first_breach}
 use Rattle.gcore.specs.declared.stop.Stop.{Stop}
-use Rattle.gcore.specs.declared.stop.Stop.TheVariants.{Text, OutOfMemory}
+use Rattle.gcore.specs.declared.stop.Stop.TheVariants.{Text, Sorts, OutOfMemory}
 use Rattle.gcore.specs.declared.text_refusal.TextRefusal.TheVariants.{NotUtf8, BadCharacter, OpenText, NumberTooLarge, TooDeep, Syntax}
 
 -- the place before the first byte
@@ -22,6 +24,16 @@ first_place = record { line = 1; column = 1 }
 -- the place of the token of a number, and at the number of tokens that of the end of the text
 abbrev pub token_place : List Place → ℕ → Place
 token_place places k = unwrap_or (slice_get places k) first_place
+
+-- the last place, which is that of the end of the text
+abbrev pub end_place : List Place → Place
+end_place [] = first_place
+end_place (place ∷ []) = place
+end_place (place ∷ next ∷ places) = end_place (next ∷ places)
+
+-- the place of the token at which a sort rule is broken
+abbrev pub breach_place : List Place → Breach → Place
+breach_place places breach = unwrap_or (slice_get places breach.token) (end_place places)
 
 -- a text that has no tokens, as a stop
 abbrev pub stop_of_lex : LexRefusal → Stop
@@ -37,23 +49,34 @@ stop_of_parse places (parse.TooDeep k) = Text (TooDeep (token_place places k))
 stop_of_parse places (parse.Syntax k) = Text (Syntax (token_place places k))
 stop_of_parse places parse.Memory = OutOfMemory
 
--- what a parse of tokens at these places gives
-abbrev pub statements_at : List Place → Result (List (Tree AStatement)) ParseRefusal → Result (List (Tree AStatement)) Stop
-statements_at places (Ok statements) = Ok statements
-statements_at places (Err refusal) = Err (stop_of_parse places refusal)
+-- statements of tokens at these places, where they break no sort rule, or their first breach
+abbrev pub unless_broken : List Place → List (Tree AStatement) → Option Breach → Result (List (Tree AStatement)) Stop
+unless_broken places statements None = Ok statements
+unless_broken places statements (Some breach) = Err (Sorts breach.rule (breach_place places breach))
+
+-- statements of tokens at these places, over graphs of these names
+abbrev pub sorted_at : List (List ℕ) → List Place → List (Tree AStatement) → Result (List (Tree AStatement)) Stop
+sorted_at graphs places statements = unless_broken places statements (first_breach graphs (row statements))
+
+-- what a parse of tokens at these places gives, over graphs of these names
+abbrev pub statements_at : List (List ℕ) → List Place → Result (List (Tree AStatement)) ParseRefusal → Result (List (Tree AStatement)) Stop
+statements_at graphs places (Ok statements) = sorted_at graphs places statements
+statements_at graphs places (Err refusal) = Err (stop_of_parse places refusal)
 
 -- the statements of the tokens of a text, if it has tokens
-abbrev pub statements_in : Result TokenList LexRefusal → Result (List (Tree AStatement)) Stop
-statements_in (Ok list) = statements_at list.places (parsed list.tokens)
-statements_in (Err refusal) = Err (stop_of_lex refusal)
+abbrev pub statements_in : List (List ℕ) → Result TokenList LexRefusal → Result (List (Tree AStatement)) Stop
+statements_in graphs (Ok list) = statements_at graphs list.places (parsed list.tokens)
+statements_in graphs (Err refusal) = Err (stop_of_lex refusal)
 
--- the statements of a text: it has to have tokens, and they have to be those of a query file
-abbrev pub statements_of : List ℕ → Result (List (Tree AStatement)) Stop
-statements_of text = statements_in (lexed text)
+-- the statements of a text over graphs of these names: it has to have tokens, they have to be those of a
+-- query file, and this may break no sort rule
+abbrev pub statements_of : List (List ℕ) → List ℕ → Result (List (Tree AStatement)) Stop
+statements_of graphs text = statements_in graphs (lexed text)
 
 -- the file of the statements that are due is given, or the refusal that is due is told; want of memory is free
-abbrev pub IsFileOf : Result (List (Tree AStatement)) Stop → Result File Stop → Type 0
-IsFileOf due (Ok file) = due ≡ Ok (file_trees file)
+abbrev pub IsFileOf : Result (List (Tree AStatement)) Stop → Result Checked Stop → Type 0
+IsFileOf due (Ok checked) = due ≡ Ok (file_trees checked.file)
 IsFileOf due (Err (Text refusal)) = due ≡ Err (Text refusal)
+IsFileOf due (Err (Sorts rule place)) = due ≡ Err (Sorts rule place)
 IsFileOf due (Err OutOfMemory) = ⊤
 IsFileOf due (Err stop) = ⊥

@@ -3,7 +3,7 @@ use Rattle.std.specs.Prelude.{◌≡◌, ℕ, List, Option, Result, Ok, Err, IfS
 use Rattle.gc_base.specs.Faults.{Rose}
 use Rattle.gc_base.specs.Files.{Files}
 use Rattle.gcore.specs.declared.stop.Stop.{Stop}
-use Rattle.gcore.specs.declared.stop.Stop.TheVariants.{Usage, Unread, TooLarge, Refused, Text, NotBuilt, Unwritten, OutOfMemory}
+use Rattle.gcore.specs.declared.stop.Stop.TheVariants.{Usage, Unread, TooLarge, Refused, Text, Sorts, NotBuilt, Unwritten, OutOfMemory}
 
 -- a folder in a step: its files, where it tells them, and its count of faults before and after
 pub record Reading : Type 0 where
@@ -19,6 +19,7 @@ StopsReading reading name due (Unread file) =
 StopsReading reading name due (TooLarge file) = (file ≡ name) × IfSome reading.files (λ files. due files ≡ Err (TooLarge file))
 StopsReading reading name due (Refused refusal file) = ⊥
 StopsReading reading name due (Text refusal) = ⊥
+StopsReading reading name due (Sorts rule place) = ⊥
 StopsReading reading name due NotBuilt = IfSome reading.files (λ files. due files ≡ Err NotBuilt)
 StopsReading reading name due Unwritten = ⊥
 StopsReading reading name due OutOfMemory = ⊤
@@ -27,6 +28,7 @@ StopsReading reading name due OutOfMemory = ⊤
 abbrev pub Asks : {A : Type 0} → Result A Stop → Result A Stop → Type 0
 Asks due (Ok x) = due ≡ Ok x
 Asks due (Err (Text refusal)) = due ≡ Err (Text refusal)
+Asks due (Err (Sorts rule place)) = due ≡ Err (Sorts rule place)
 Asks due (Err NotBuilt) = due ≡ Err NotBuilt
 Asks due (Err OutOfMemory) = ⊤
 Asks due (Err stop) = ⊥
@@ -53,6 +55,7 @@ ReadsGraph reading name due (Err stop) = StopsReadingGraph reading name due stop
 -- the same of a query file, which may be refused
 abbrev pub StopsReadingQuery : {A : Type 0} → Reading → List ℕ → (Files → Result A Stop) → Stop → Type 0
 StopsReadingQuery reading name due (Text refusal) = IfSome reading.files (λ files. due files ≡ Err (Text refusal))
+StopsReadingQuery reading name due (Sorts rule place) = IfSome reading.files (λ files. due files ≡ Err (Sorts rule place))
 StopsReadingQuery reading name due stop = StopsReading reading name due stop
 
 abbrev pub ReadsQuery : {A : Type 0} → Reading → List ℕ → (Files → Result A Stop) → Result A Stop → Type 0

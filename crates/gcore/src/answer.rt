@@ -9,7 +9,7 @@ ghost use Rattle.gcore.specs.declared.command.Command.TheVariants.{Run};
 use crate::command::Command;
 use crate::graphs::read_graphs;
 use crate::inputs::read_label;
-use crate::pair::Pair;
+use crate::pair::{Pair, names_of};
 use crate::stop::Stop;
 use gc_base::{Bytes, Memory, Name, Steps, Str};
 use gc_io::{Folder, Sink, SinkFault, write_whole};
@@ -68,7 +68,8 @@ fn run_query<F: Folder, S: Sink, L: Ledger>(
     ensures kept { F.files folder.new ≡ F.files folder.old }
 {
     let catalog = read_graphs(alloc, folder, pairs)?;
-    let label = read_label(alloc, folder, query)?;
+    let names = names_of(alloc, pairs)?;
+    let label = read_label(alloc, folder, query, &names)?;
     let written = write_labelled(alloc, catalog.graphs().at(0), &label, out, steps);
     // The program ends with the answer, and the system takes the memory of the graphs back whole.
     let _kept = ManuallyDrop::new(catalog);

@@ -7,7 +7,7 @@ ghost use Rattle.gcore.specs.Steps.{Accepts, Asks, Reads, ReadsGraph, ReadsQuery
 use crate::query_file::query_file;
 use crate::stop::Stop;
 use crate::thin_tree::thin_label;
-use gc_base::{Bytes, Duplicate, Name, Str};
+use gc_base::{Bytes, Duplicate, Name, NameList, Str};
 use gc_io::{Folder, ReadRefusal, read_whole};
 use gc_json::{GraphRefusal, load};
 use gc_ppg::{Coherence, Graph};
@@ -47,22 +47,27 @@ fn load_named(alloc: Global, bytes: &[u8], name: &Str, seen: &Coherence) -> Resu
     }
 }
 
-/// The label of a query file.
-pub fn read_label<F: Folder>(alloc: Global, folder: &mut F, name: &Str) -> Result<Name, Stop>
-    ensures outcome { ReadsQuery (record { files = F.files folder.old; faults_before = F.faults folder.old; faults_after = F.faults folder.new }) name.now (λ files. label_due files name.now) result }
+/// The label of a query file over graphs of these names.
+pub fn read_label<F: Folder>(
+    alloc: Global,
+    folder: &mut F,
+    name: &Str,
+    graphs: &NameList,
+) -> Result<Name, Stop>
+    ensures outcome { ReadsQuery (record { files = F.files folder.old; faults_before = F.faults folder.old; faults_after = F.faults folder.new }) name.now (λ files. label_due graphs.now files name.now) result }
     ensures later { F.faults folder.old ≤ F.faults folder.new }
     ensures kept { F.files folder.new ≡ F.files folder.old }
 {
     let bytes = read_file(alloc, folder, name, QUERY_LIMIT)?;
-    label_in(alloc, bytes.as_slice())
+    label_in(alloc, bytes.as_slice(), graphs)
 }
 
 // The label that the bytes of a query file ask for.
-fn label_in(alloc: Global, bytes: &[u8]) -> Result<Name, Stop>
-    ensures { Asks (label_of bytes.now) result }
+fn label_in(alloc: Global, bytes: &[u8], graphs: &NameList) -> Result<Name, Stop>
+    ensures { Asks (label_of graphs.now bytes.now) result }
 {
-    let file = query_file(alloc, bytes)?;
-    match thin_label(&file) {
+    let checked = query_file(alloc, bytes, graphs)?;
+    match thin_label(checked.file()) {
         Some(label) => Ok(label.copy()?),
         None => Err(Stop::NotBuilt),
     }

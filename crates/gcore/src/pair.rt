@@ -1,8 +1,9 @@
-ghost use Rattle.std.specs.Prelude.{◌≡◌, map, string_bytes};
+ghost use Rattle.std.specs.Prelude.{◌≡◌, map, string_bytes, IfOk};
+ghost use Rattle.gcore.specs.Outcomes.{graph_names};
 ghost use Rattle.gcore.specs.Pairs.{names_differ, has_name};
 
 use crate::command::CommandRefusal;
-use gc_base::{Memory, Name, Sequence, Str, is_reserved};
+use gc_base::{Duplicate, Memory, Name, NameList, Sequence, Str, is_reserved};
 use std::alloc::Global;
 
 /// A name and the word of the graph file that it stands for.
@@ -68,6 +69,17 @@ fn pairs_of(alloc: Global, words: &[String]) -> Result<PairList, CommandRefusal>
         pairs.push(Pair::of(alloc, word.as_str())?)?;
     }
     Ok(pairs)
+}
+
+/// The names of pairs, in their order.
+pub fn names_of(alloc: Global, pairs: &[Pair]) -> Result<NameList, Memory>
+    ensures { IfOk result (λ names. names ≡ graph_names pairs.now) }
+{
+    let mut names = NameList::new(alloc);
+    for pair in pairs {
+        names.push(pair.name.copy()?)?;
+    }
+    Ok(names)
 }
 
 // Whether no name comes twice.

@@ -1,7 +1,8 @@
 ghost use Rattle.std.specs.Prelude.{◌≡◌, ◌++◌, codes, length};
 ghost use Rattle.gc_base.specs.Sinks.{HasRoom};
 ghost use Rattle.gc_io.specs.Pieces.{joined};
-ghost use Rattle.gcore.specs.Lines.{line, line_of, refusal_line, spot_line, item_line, digits_line, text_line, place_line, numbers_line};
+ghost use Rattle.gcore.specs.Lines.{line, line_of, refusal_line, spot_line, item_line, digits_line, text_line, sort_line, place_line, numbers_line};
+ghost use Rattle.gcore.specs.SortLines.{rule_text};
 ghost use Rattle.gcore.specs.Endings.{Change, Tells};
 
 use crate::stop::Stop;
@@ -9,6 +10,7 @@ use crate::text_refusal::TextRefusal;
 use gc_base::Place;
 use gc_io::{Sink, write_pieces};
 use gc_json::{GraphRefusal, Part, Spot};
+use gc_sorts::SortRule;
 use itoa::Buffer;
 
 /// Tells a sink the line of a stop. It takes no memory, and a failure of the sink changes nothing else.
@@ -22,6 +24,7 @@ pub fn tell<T: Sink>(stop: &Stop, err: &mut T)
         Stop::TooLarge(file) => tell_line(err, b"too large ", file.text().as_bytes()),
         Stop::Refused(refusal, file) => tell_refusal(err, refusal, file.text().as_bytes()),
         Stop::Text(refusal) => tell_text(err, *refusal),
+        Stop::Sorts(rule, place) => tell_sorts(err, *rule, *place),
         Stop::NotBuilt => tell_line(err, b"not built", b""),
         Stop::Unwritten => tell_line(err, b"cannot write", b""),
         Stop::OutOfMemory => tell_line(err, b"out of memory", b""),
@@ -144,6 +147,37 @@ fn tell_text<T: Sink>(err: &mut T, refusal: TextRefusal)
         TextRefusal::NumberTooLarge(place) => tell_place(err, b"L4 NumberTooLarge", place),
         TextRefusal::TooDeep(place) => tell_place(err, b"P1 TooDeep", place),
         TextRefusal::Syntax(place) => tell_place(err, b"P2 Syntax", place),
+    }
+}
+
+// The line of a query file that breaks a sort rule.
+fn tell_sorts<T: Sink>(err: &mut T, rule: SortRule, place: Place)
+    requires { HasRoom (T.room err.old) (length (sort_line rule place)) }
+    ensures { Tells (record { faults_before = T.faults err.old; faults_after = T.faults err.new; taken_before = T.taken err.old; taken_after = T.taken err.new }) (sort_line rule place) }
+{
+    tell_place(err, rule_text(rule), place);
+}
+
+// A sort rule with its code.
+fn rule_text(rule: SortRule) -> &'static [u8]
+    ensures { result.now ≡ rule_text rule }
+{
+    match rule {
+        SortRule::UnknownGraph => b"S1 UnknownGraph",
+        SortRule::UnknownView => b"S2 UnknownView",
+        SortRule::UnknownName => b"S3 UnknownName",
+        SortRule::SortClash => b"S4 SortClash",
+        SortRule::TwiceBound => b"S5 TwiceBound",
+        SortRule::SharedOptional => b"S6 SharedOptional",
+        SortRule::AllNotProjected => b"S7 AllNotProjected",
+        SortRule::LooseEdge => b"S8 LooseEdge",
+        SortRule::TwiceGrouped => b"S9 TwiceGrouped",
+        SortRule::ViewNeedsEdge => b"S10 ViewNeedsEdge",
+        SortRule::KOutOfRange => b"S11 KOutOfRange",
+        SortRule::AggregateHere => b"S12 AggregateHere",
+        SortRule::ExistsForm => b"S13 ExistsForm",
+        SortRule::NameTaken => b"S14 NameTaken",
+        SortRule::TooLarge => b"S15 TooLarge",
     }
 }
 

@@ -10,6 +10,8 @@ pub enum Status {
     Usage = 2,
     /// The query file is refused.
     Text = 3,
+    /// The query file breaks a sort rule.
+    Sorts = 4,
     /// A graph file breaks a rule.
     Graph = 5,
     /// A named file can't be read.

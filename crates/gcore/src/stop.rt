@@ -10,6 +10,7 @@ use gc_base::{Memory, Place, Str};
 use gc_io::SinkFault;
 use gc_json::{GraphRefusal, Spot};
 use gc_lex::LexRefusal;
+use gc_sorts::SortRule;
 
 /// Why a call ends without being done, with the word of the file that it is about.
 #[derive(Debug, Drop)]
@@ -24,6 +25,8 @@ pub enum Stop {
     Refused(GraphRefusal, Str),
     /// The query file is refused.
     Text(TextRefusal),
+    /// The query file breaks a sort rule at a place.
+    Sorts(SortRule, Place),
     /// What is asked for is not built yet.
     NotBuilt,
     /// The output failed.
@@ -43,6 +46,7 @@ impl Stop {
             Stop::TooLarge(_) => Status::Size,
             Stop::Refused(_, _) => Status::Graph,
             Stop::Text(_) => Status::Text,
+            Stop::Sorts(_, _) => Status::Sorts,
             Stop::NotBuilt => Status::NotBuilt,
             Stop::Unwritten => Status::Write,
             Stop::OutOfMemory => Status::Memory,
@@ -60,6 +64,7 @@ impl Stop {
         match self {
             Stop::Refused(refusal, _) => known_refusal(refusal),
             Stop::Text(refusal) => known_text(*refusal),
+            Stop::Sorts(_, place) => known_place(*place),
             _ => {}
         }
     }

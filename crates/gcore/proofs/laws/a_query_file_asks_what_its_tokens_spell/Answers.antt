@@ -1,8 +1,14 @@
-use Rattle.gcore.proofs.QueryFileLaws.{asked_as_spelled, asked_too_deep, asked_refused}
+use Rattle.gcore.proofs.QueryFileLaws.{asked_as_spelled, told_as_broken, broken_as_told, asked_too_deep, asked_refused}
 use Rattle.gcore.proofs.laws.a_query_file_asks_what_its_tokens_spell.Goals as goal
 
 pub returns-clause-spelled : goal.returns-clause-spelled
 returns-clause-spelled c = asked_as_spelled
+
+pub returns-clause-broken : goal.returns-clause-broken
+returns-clause-broken c = told_as_broken
+
+pub returns-clause-told : goal.returns-clause-told
+returns-clause-told c = broken_as_told
 
 pub returns-clause-deep : goal.returns-clause-deep
 returns-clause-deep c = asked_too_deep

@@ -3,7 +3,7 @@ use Rattle.std.specs.Prelude.{codes}
 use Rattle.gcore.specs.Lines.{line, line_of}
 use Rattle.gcore.specs.Endings.{Change, Tells}
 use Rattle.gcore.specs.declared.stop.Stop.{Stop}
-use Rattle.gcore.specs.declared.stop.Stop.TheVariants.{Unread, TooLarge, Text, NotBuilt, Unwritten, OutOfMemory}
+use Rattle.gcore.specs.declared.stop.Stop.TheVariants.{Unread, TooLarge, Text, Sorts, NotBuilt, Unwritten, OutOfMemory}
 use Rattle.gcore.proofs.report.tell.Goals as goal
 
 -- the line of a stop
@@ -25,6 +25,9 @@ returns-in-TooLarge g c =
 
 pub returns-in-Text : goal.returns-in-Text
 returns-in-Text g c = told _ c.args.stop.now (Text c.in-Text.refusal) c.in-Text.is c.tell_text.ensures
+
+pub returns-in-Sorts : goal.returns-in-Sorts
+returns-in-Sorts g c = told _ c.args.stop.now (Sorts c.in-Sorts.rule c.in-Sorts.place) c.in-Sorts.is c.tell_sorts.ensures
 
 pub returns-in-NotBuilt : goal.returns-in-NotBuilt
 returns-in-NotBuilt g c = told _ c.args.stop.now NotBuilt c.in-NotBuilt.is c.tell_line-in-NotBuilt.ensures

@@ -7,7 +7,7 @@ use Rattle.gcore.specs.declared.command.Command.{Command}
 use Rattle.gcore.specs.declared.command.Command.TheVariants.{Run, Cert, Explain, Check, Make}
 use Rattle.gcore.specs.declared.pair.Pair.{Pair}
 use Rattle.gcore.specs.declared.stop.Stop.{Stop}
-use Rattle.gcore.specs.declared.stop.Stop.TheVariants.{Usage, Unread, TooLarge, Refused, Text, NotBuilt, Unwritten, OutOfMemory}
+use Rattle.gcore.specs.declared.stop.Stop.TheVariants.{Usage, Unread, TooLarge, Refused, Text, Sorts, NotBuilt, Unwritten, OutOfMemory}
 use Rattle.gcore.proofs.top.gcore.Goals as goal
 
 abbrev files_of : List Pair → List (List ℕ)
@@ -54,6 +54,7 @@ may_stop call (Unread file) held h = is_named call.command call.files file h.0
 may_stop call (TooLarge file) held h = is_named call.command call.files file h.0
 may_stop call (Refused refusal file) held h = (is_named_graph call.command call.files file h.0, held)
 may_stop call (Text refusal) held h = (has_query call.command call.files h.0, held)
+may_stop call (Sorts rule place) held h = (has_query call.command call.files h.0, held)
 may_stop call NotBuilt held h = tt
 may_stop call Unwritten held h = tt
 may_stop call OutOfMemory held h = tt

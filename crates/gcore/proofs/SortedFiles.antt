@@ -1,0 +1,48 @@
+-- Where a file breaks a sort rule, by the places of its tokens with that of its end behind them.
+use Rattle.std.proofs.Common.{◌≡◌, ℕ, zero, suc, List, [], ◌∷◌, ◌++◌, Option, Some, None, Result, Ok, Err, refl, ap, sym, subst, ◌∙◌, slice_get}
+use Rattle.std.specs.Option.{unwrap_or}
+use Rattle.gc_base.specs.declared.place.Place.{Place}
+use Rattle.gc_ast.specs.declared.file.File.{File}
+use Rattle.gc_ast.specs.QueryViews.{file_trees}
+use Rattle.gc_lex.specs.declared.token.Token.{Token}
+use Rattle.gc_parse.specs.Parses.{parsed}
+use Rattle.gc_sorts.specs.declared.breach.Breach.{Breach}
+use Rattle.gc_sorts.specs.declared.breach.SortRule.{SortRule}
+use Rattle.gc_sorts.specs.declared.checking.Checked.{Checked}
+use Rattle.gc_sorts.specs.declared.refusal.SortRefusal.TheVariants.{Broken}
+use Rattle.gc_sorts.specs.Checks.{IsChecked}
+use Rattle.gcore.specs.QueryFiles.{IsFileOf, breach_place, end_place, sorted_at, statements_at, unless_broken}
+use Rattle.gcore.specs.declared.stop.Stop.{Stop}
+use Rattle.gcore.specs.declared.stop.Stop.TheVariants.{Sorts}
+
+end_is : (places : List Place) (end : Place) → end_place (places ++ end ∷ []) ≡ end
+end_is [] end = refl
+end_is (p ∷ []) end = refl
+end_is (p ∷ q ∷ places) end = end_is (q ∷ places) end
+
+or_end : (places : List Place) (end : Place) (k : ℕ) → unwrap_or (slice_get (places ++ end ∷ []) k) end ≡ unwrap_or (slice_get places k) end
+or_end [] end zero = refl
+or_end [] end (suc k) = refl
+or_end (p ∷ places) end zero = refl
+or_end (p ∷ places) end (suc k) = or_end places end k
+
+place_is : (places : List Place) (end : Place) (breach : Breach) → breach_place (places ++ end ∷ []) breach ≡ unwrap_or (slice_get places breach.token) end
+place_is places end breach = ap (unwrap_or (slice_get (places ++ end ∷ []) breach.token)) (end_is places end) ∙ or_end places end breach.token
+
+-- the places of a file's tokens, and that of its end
+abbrev pub places_of : File → List Place
+places_of file = file.places ++ file.end ∷ []
+
+pub sorted_is : (file : File) (found : Option Breach) (checked : Checked) → IsChecked file found (Ok checked) → unless_broken (places_of file) (file_trees file) found ≡ Ok (file_trees checked.file)
+sorted_is file None checked h = ap (λ f. Ok (file_trees f)) (sym h)
+sorted_is file (Some breach) checked h = absurd h
+
+pub broken_is : (file : File) (found : Option Breach) (rule : SortRule) (at : Place) → IsChecked file found (Err (Broken rule at)) → unless_broken (places_of file) (file_trees file) found ≡ Err (Sorts rule at)
+broken_is file None rule at h = absurd h
+broken_is file (Some breach) rule at h = ap (λ r. Err (Sorts r (breach_place (places_of file) breach))) (sym h.0) ∙ ap (λ p. Err (Sorts rule p)) (place_is file.places file.end breach ∙ sym h.1)
+
+-- the file that tokens at these places spell
+pub parsed_file : (graphs : List (List ℕ)) (places : List Place) (tokens : List Token) (file : File) (r : Result Checked Stop) → parsed tokens ≡ Ok (file_trees file) → places_of file ≡ places
+    → IsFileOf (sorted_at graphs (places_of file) (file_trees file)) r → IsFileOf (statements_at graphs places (parsed tokens)) r
+parsed_file graphs places tokens file r due same h =
+    subst (λ p. IsFileOf (statements_at graphs places p) r) (sym due) (subst (λ ps. IsFileOf (sorted_at graphs ps (file_trees file)) r) same h)
