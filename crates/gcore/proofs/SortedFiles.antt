@@ -8,7 +8,7 @@ use Rattle.gc_lex.specs.declared.token.Token.{Token}
 use Rattle.gc_parse.specs.Parses.{parsed}
 use Rattle.gc_sorts.specs.declared.breach.Breach.{Breach}
 use Rattle.gc_sorts.specs.declared.breach.SortRule.{SortRule}
-use Rattle.gc_sorts.specs.declared.checking.Checked.{Checked}
+use Rattle.gc_sorts.specs.declared.checked.Checked.{Checked}
 use Rattle.gc_sorts.specs.declared.refusal.SortRefusal.TheVariants.{Broken}
 use Rattle.gc_sorts.specs.Checks.{IsChecked}
 use Rattle.gcore.specs.QueryFiles.{IsFileOf, breach_place, end_place, sorted_at, statements_at, unless_broken}
@@ -33,13 +33,13 @@ place_is places end breach = ap (unwrap_or (slice_get (places ++ end ∷ []) bre
 abbrev pub places_of : File → List Place
 places_of file = file.places ++ file.end ∷ []
 
-pub sorted_is : (file : File) (found : Option Breach) (checked : Checked) → IsChecked file found (Ok checked) → unless_broken (places_of file) (file_trees file) found ≡ Ok (file_trees checked.file)
-sorted_is file None checked h = ap (λ f. Ok (file_trees f)) (sym h)
-sorted_is file (Some breach) checked h = absurd h
+pub sorted_is : (file : File) (graphs : List (List ℕ)) (found : Option Breach) (checked : Checked) → IsChecked file graphs found (Ok checked) → unless_broken (places_of file) (file_trees file) found ≡ Ok (file_trees checked.file)
+sorted_is file graphs None checked h = ap (λ f. Ok (file_trees f)) (sym h.0)
+sorted_is file graphs (Some breach) checked h = absurd h
 
-pub broken_is : (file : File) (found : Option Breach) (rule : SortRule) (at : Place) → IsChecked file found (Err (Broken rule at)) → unless_broken (places_of file) (file_trees file) found ≡ Err (Sorts rule at)
-broken_is file None rule at h = absurd h
-broken_is file (Some breach) rule at h = ap (λ r. Err (Sorts r (breach_place (places_of file) breach))) (sym h.0) ∙ ap (λ p. Err (Sorts rule p)) (place_is file.places file.end breach ∙ sym h.1)
+pub broken_is : (file : File) (graphs : List (List ℕ)) (found : Option Breach) (rule : SortRule) (at : Place) → IsChecked file graphs found (Err (Broken rule at)) → unless_broken (places_of file) (file_trees file) found ≡ Err (Sorts rule at)
+broken_is file graphs None rule at h = absurd h
+broken_is file graphs (Some breach) rule at h = ap (λ r. Err (Sorts r (breach_place (places_of file) breach))) (sym h.0) ∙ ap (λ p. Err (Sorts rule p)) (place_is file.places file.end breach ∙ sym h.1)
 
 -- the file that tokens at these places spell
 pub parsed_file : (graphs : List (List ℕ)) (places : List Place) (tokens : List Token) (file : File) (r : Result Checked Stop) → parsed tokens ≡ Ok (file_trees file) → places_of file ≡ places

@@ -11,7 +11,7 @@ use Rattle.gc_parse.specs.declared.refusal.ParseRefusal.{ParseRefusal}
 use Rattle.gc_parse.specs.declared.refusal.ParseRefusal.TheVariants as parse
 use Rattle.gc_parse.specs.Parses.{parsed}
 use Rattle.gc_sorts.specs.declared.breach.Breach.{Breach}
-use Rattle.gc_sorts.specs.declared.checking.Checked.{Checked}
+use Rattle.gc_sorts.specs.declared.checked.Checked.{Checked}
 use Rattle.gc_sorts.specs.SortRules.{first_breach}
 use Rattle.gcore.specs.declared.stop.Stop.{Stop}
 use Rattle.gcore.specs.declared.stop.Stop.TheVariants.{Text, Sorts, OutOfMemory}
