@@ -15,9 +15,9 @@ due_of graphs bytes file read r h same asked = ap (λ d. then_due d (λ statemen
 
 pub returns-in-Some : goal.returns-in-Some
 returns-in-Some c =
-    due_of c.args.graphs.now c.args.bytes.now c.in_ok-checked.checked.file c.file.result.now (Ok c.in_ok-copy-in-Some.field-0) c.in_ok-checked.ensures c.file.ensures
+    due_of c.args.graphs.now c.args.bytes.now c.in_ok-checked.checked.file c.file.result.now (Ok c.in_ok-copy-in-Some.field-0) c.in_ok-checked.ensures c.file.ensures.file
     (ap built (sym c.in-Some.ensures) ∙ ap (λ label. Ok label) (sym c.in_ok-copy-in-Some.ensures))
 
 pub returns : goal.returns
 returns c =
-    due_of c.args.graphs.now c.args.bytes.now c.in_ok-checked.checked.file c.file.result.now (Err NotBuilt) c.in_ok-checked.ensures c.file.ensures (ap built (sym c.in-None.ensures))
+    due_of c.args.graphs.now c.args.bytes.now c.in_ok-checked.checked.file c.file.result.now (Err NotBuilt) c.in_ok-checked.ensures c.file.ensures.file (ap built (sym c.in-None.ensures))
