@@ -1,0 +1,7 @@
+//! What a CONSTRUCT makes of a table. So far it makes the nodes to which the rows bind variables.
+//! Others rely on `bound_nodes`. This crate knows of no query file and finds no rows.
+#![tactic(auto)]
+
+mod nodes;
+
+pub use nodes::bound_nodes;

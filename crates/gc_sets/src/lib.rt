@@ -1,0 +1,7 @@
+//! Set operations on graphs. Others rely on the unions of labels and of properties. This crate knows
+//! of no query.
+#![tactic(auto)]
+
+mod descriptions;
+
+pub use descriptions::{unite_labels, unite_properties};
