@@ -1,7 +1,7 @@
 -- What chains of patterns ask for, as atoms in the order of the text.
-use Rattle.std.specs.Prelude.{ℕ, List, [], ◌∷◌, ◌++◌, map, length, Option, Some, None}
-use Rattle.std.specs.List.{flat_map}
+use Rattle.std.specs.Prelude.{ℕ, ◌+◌, List, [], ◌∷◌, ◌++◌, map, length, Option, Some, None}
 use Rattle.std.specs.Option.{unwrap_or}
+use Rattle.gc_base.specs.declared.place.Direction.{Direction}
 use Rattle.gc_base.specs.declared.place.NameAt.{NameAt}
 use Rattle.gc_base.specs.declared.place.Sym.{Sym}
 use Rattle.gc_expr.specs.Views.{Names, name_of}
@@ -16,7 +16,6 @@ use Rattle.gc_ast.specs.declared.pattern.PropertyUse.{PropertyUse}
 use Rattle.gc_ppg.specs.declared.shape.Kind.{Kind}
 use Rattle.gc_ppg.specs.declared.shape.Kind.TheVariants as kind
 use Rattle.gc_alg.specs.declared.atom.Atom.{Atom}
-use Rattle.gc_alg.specs.declared.atom.AtomWhat.{AtomWhat}
 use Rattle.gc_alg.specs.declared.atom.AtomWhat.TheVariants as atom
 
 -- what names stand for: the names of a file by number, and the names of the graphs by number
@@ -61,8 +60,8 @@ abbrev pub node_atoms : Scope → (graph : ℕ) → Element → List Atom
 node_atoms s graph e = record { graph = graph; what = atom.Node (variable s e) e.labels } ∷ map (property_atom graph (variable s e) kind.Node) e.properties
 
 -- the same of an edge pattern between two nodes
-abbrev pub edge_atoms : Scope → (graph : ℕ) → (left right : Sym) → AtomWhat → Element → List Atom
-edge_atoms s graph left right edge e = record { graph = graph; what = edge } ∷ map (property_atom graph (variable s e) kind.Edge) e.properties
+abbrev pub edge_atoms : Scope → (graph : ℕ) → (left right : Sym) → Direction → Element → List Atom
+edge_atoms s graph x y way e = record { graph = graph; what = atom.Edge x (variable s e) y way e.labels } ∷ map (property_atom graph (variable s e) kind.Edge) e.properties
 
 -- a stored path pattern between two nodes; the other path patterns are not lowered yet
 abbrev pub path_atoms : (graph : ℕ) → (left right : Sym) → PathBody → Option (List Atom)
@@ -73,7 +72,7 @@ path_atoms graph left right (body.All p r views) = None
 
 -- the atoms of a link between the nodes beside it
 abbrev pub link_atoms : Scope → (graph : ℕ) → (left right : Option Sym) → Pattern → Option (List Atom)
-link_atoms s graph (Some x) (Some y) (pattern.Edge way e) = Some (edge_atoms s graph x y (atom.Edge x (variable s e) y way e.labels) e)
+link_atoms s graph (Some x) (Some y) (pattern.Edge way e) = Some (edge_atoms s graph x y way e)
 link_atoms s graph (Some x) (Some y) (pattern.Path token regex_at b) = path_atoms graph x y b
 link_atoms s graph left right p = None
 
