@@ -1,0 +1,3 @@
+pub mod NodeAnswers
+pub mod NodeQueries
+pub mod OnlyBasics

@@ -1,0 +1,53 @@
+-- The graph that answers a query for nodes.
+use Rattle.std.specs.Prelude.{◌≡◌, ◌↔◌, ℕ, List, [], ◌∷◌, map, Option, Some, None, ⊤}
+use Rattle.std.specs.List.{Contains}
+use Rattle.gc_base.specs.declared.place.Sym.{Sym}
+use Rattle.gc_expr.specs.Views.{Names, name_of}
+use Rattle.gc_ast.specs.QueryViews.{block_tree}
+use Rattle.gc_ast.specs.declared.query.MatchBlock.{MatchBlock}
+use Rattle.gc_rows.specs.declared.row.Binding.{Binding}
+use Rattle.gc_spec.specs.PropertyGraph.{PropertyGraph}
+use Rattle.gc_alg.specs.Matches.{IsRowOfPart, Setting}
+use Rattle.gc_alg.specs.declared.block.Block.{Block}
+use Rattle.gc_alg.specs.declared.block.Part.{Part}
+use Rattle.gc_lower.specs.Asked.{Asked, IsLowered, asked}
+use Rattle.gc_lower.specs.Chains.{Scope}
+use Rattle.gc_build.specs.BoundNodes.{IsOfBoundNodes}
+use Rattle.gc_query.specs.NodeQueries.{NodeQuery}
+
+-- a list of exactly the rows of a part, when nothing is given
+pub record HasRowsOf (graphs : List PropertyGraph) (block : Block) (part : Part) (rows : List (List Binding)) : Type 0 where
+  pub exact : (row : List Binding) → Contains rows row ↔ IsRowOfPart (record { graphs = graphs; block = block; given = [] }) part row
+
+-- the graph of the nodes to which the rows of a block of one part bind variables
+pub record IsMatched (graphs : List PropertyGraph) (block : Block) (vars : List Sym) (g : PropertyGraph) : Type 0 where
+  pub part : Part
+  pub only : block.parts.items ≡ part ∷ []
+  pub rows : List (List Binding)
+  pub table : HasRowsOf graphs block part rows
+  pub made : IsOfBoundNodes (record { rows = rows; reads = block.reads; graphs = graphs }) vars g
+
+-- names as numbers of a table: the query's block with its names numbered, and the numbers of the nodes that it asks for
+pub record IsNumbered (query : NodeQuery) (names : Names) (main : MatchBlock) (vars : List Sym) : Type 0 where
+  pub written : block_tree names main ≡ query.block
+  pub named : map (name_of names) vars ≡ query.names
+
+-- a graph answers a query over graphs of these names: with its names numbered, its block asks for atoms and conjuncts, and the
+-- graph is that of the nodes to which the rows that meet them all bind what is asked for
+pub record IsAnswer (graph_names : List (List ℕ)) (graphs : List PropertyGraph) (query : NodeQuery) (g : PropertyGraph) : Type 0 where
+  pub names : Names
+  pub main : MatchBlock
+  pub vars : List Sym
+  pub numbered : IsNumbered query names main vars
+  pub atoms : Asked
+  pub asks : asked (record { names = names; graphs = graph_names }) main ≡ Some atoms
+  pub block : Block
+  pub lowered : IsLowered atoms block
+  pub matched : IsMatched graphs block vars g
+
+-- there is an answer exactly where the query is built
+abbrev pub IsAnswering : List (List ℕ) → List PropertyGraph → Option NodeQuery → Option PropertyGraph → Type 0
+IsAnswering graph_names graphs None None = ⊤
+IsAnswering graph_names graphs None (Some g) = ⊥
+IsAnswering graph_names graphs (Some query) None = ⊥
+IsAnswering graph_names graphs (Some query) (Some g) = IsAnswer graph_names graphs query g

@@ -1,0 +1,95 @@
+ghost use Rattle.std.specs.Prelude.{◌≡◌, map, IfOk, OnOk, ◌++◌};
+ghost use Rattle.std.specs.List.{list_all, list_any};
+ghost use Rattle.gc_expr.specs.Views.{Names, name_of};
+ghost use Rattle.gc_ast.specs.Names.{same_name};
+ghost use Rattle.gc_ast.specs.Trees.{row};
+ghost use Rattle.gc_ast.specs.PatternViews.{located_tree, pattern_tree};
+ghost use Rattle.gc_query.specs.NodeQueries.{chain_names, node_names, pattern_names};
+
+use gc_ast::{Located, NameTable, Pattern};
+use gc_base::{Memory, Sym};
+use std::alloc::Global;
+
+/// Whether each variable has the name of a node pattern of these chains.
+pub fn are_nodes(
+    alloc: Global,
+    names: &NameTable,
+    located: &[Located],
+    vars: &[Sym],
+) -> Result<bool, Memory>
+    ensures { IfOk result (λ all. all ≡ list_all (λ name. list_any (same_name name) (node_names (row (map (located_tree names.now) located.now)))) (map (name_of names.now) vars.now)) }
+{
+    let nodes = node_vars(alloc, located)?;
+    Ok(are_among(names, &nodes, vars))
+}
+
+// Whether each variable has the name of one of others.
+fn are_among(names: &NameTable, others: &[Sym], vars: &[Sym]) -> bool
+    ensures { result ≡ list_all (λ name. list_any (same_name name) (map (name_of names.now) others.now)) (map (name_of names.now) vars.now) }
+{
+    for var in vars {
+        if !is_among(names, others, *var) {
+            return false;
+        }
+    }
+    true
+}
+
+fn is_among(names: &NameTable, others: &[Sym], var: Sym) -> bool
+    ensures { result ≡ list_any (same_name (name_of names.now var)) (map (name_of names.now) others.now) }
+{
+    for other in others {
+        if have_one_name(names, var, *other) {
+            return true;
+        }
+    }
+    false
+}
+
+fn have_one_name(names: &NameTable, var: Sym, other: Sym) -> bool
+    ensures { result ≡ same_name (name_of names.now var) (name_of names.now other) }
+{
+    bytes_of(names, var) == bytes_of(names, other)
+}
+
+// The bytes of a name of a file. A number that its table lacks has none.
+fn bytes_of(names: &NameTable, sym: Sym) -> &[u8]
+    ensures { result.now ≡ name_of names.now sym }
+{
+    match names.as_slice().get(sym.0 as usize) {
+        Some(name) => name.bytes(),
+        None => &[],
+    }
+}
+
+// The variables of the node patterns of chains that have a name.
+fn node_vars(alloc: Global, located: &[Located]) -> Result<Vec<Sym>, Memory>
+    ensures { (names : Names) → IfOk result (λ vars. map (name_of names) vars.items ≡ node_names (row (map (located_tree names) located.now))) }
+{
+    let mut vars = Vec::new(alloc);
+    for one in located {
+        push_chain(&mut vars, one.chain.parts.as_slice())?;
+    }
+    Ok(vars)
+}
+
+// Puts the variables of a chain's nodes behind others.
+fn push_chain(vars: &mut Vec<Sym>, parts: &[Pattern]) -> Result<(), Memory>
+    ensures { (names : Names) → OnOk result (map (name_of names) vars.new.items ≡ map (name_of names) vars.old.items ++ chain_names (row (map (pattern_tree names) parts.now))) }
+{
+    for part in parts {
+        push_node(vars, part)?;
+    }
+    Ok(())
+}
+
+fn push_node(vars: &mut Vec<Sym>, part: &Pattern) -> Result<(), Memory>
+    ensures { (names : Names) → OnOk result (map (name_of names) vars.new.items ≡ map (name_of names) vars.old.items ++ pattern_names (pattern_tree names part.now)) }
+{
+    if let Pattern::Node(element) = part {
+        if let Some(name) = element.name {
+            vars.push(name.sym)?;
+        }
+    }
+    Ok(())
+}
