@@ -3,6 +3,12 @@
 //! nothing.
 #![tactic(auto)]
 
+mod chains;
+mod conjuncts;
+mod elements;
 mod lowering;
+mod naming;
+mod reads;
+mod stop;
 
 pub use lowering::lower;
