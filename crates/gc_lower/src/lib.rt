@@ -10,5 +10,7 @@ mod lowering;
 mod naming;
 mod reads;
 mod stop;
+#[cfg(test)]
+mod tests;
 
 pub use lowering::lower;
