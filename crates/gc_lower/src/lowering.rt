@@ -14,7 +14,8 @@ use gc_base::{Memory, NameList};
 use std::alloc::Global;
 
 /// What a block asks for, by the names of its file and those of the graphs, each by number. There is
-/// `None` exactly where it has what is not lowered yet: a path that is to be found, or EXISTS.
+/// `None` exactly where it has what is not lowered yet, a path that is to be found or EXISTS, or a
+/// link without a node beside it. Numbers that pass their type are want of memory.
 pub fn lower(
     alloc: Global,
     names: &NameTable,

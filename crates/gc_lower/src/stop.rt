@@ -7,7 +7,7 @@ use std::alloc::{AllocError, AllocFailed};
 /// Why a block is not lowered.
 #[derive(Debug, Drop)]
 pub(crate) enum Stop {
-    /// It has what is not lowered yet.
+    /// It has what is not lowered yet, or a link without a node beside it.
     Unlowered,
     /// Want of memory.
     Memory,
