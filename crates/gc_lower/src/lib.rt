@@ -3,6 +3,14 @@
 //! nothing.
 #![tactic(auto)]
 
+mod chains;
+mod conjuncts;
+mod elements;
 mod lowering;
+mod naming;
+mod reads;
+mod stop;
+#[cfg(test)]
+mod tests;
 
 pub use lowering::lower;

@@ -1,0 +1,2 @@
+pub mod BothLists
+pub mod TreeRows

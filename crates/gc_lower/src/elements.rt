@@ -1,0 +1,84 @@
+ghost use Rattle.std.specs.Prelude.{◌≡◌, ◌++◌, map, OnOk};
+ghost use Rattle.gc_lower.specs.Chains.{edge_atoms, node_atoms, property_atom};
+
+use crate::naming::Naming;
+use gc_alg::{Atom, AtomList, AtomWhat};
+use gc_ast::{Element, PropertyUseList};
+use gc_base::{Direction, Duplicate, Memory, Sym};
+use gc_ppg::Kind;
+
+/// Where a link stands: its graph, and the nodes at its left and at its right.
+#[derive(Clone, Copy, Debug)]
+pub(crate) struct Link {
+    pub graph: u32,
+    pub left: Sym,
+    pub right: Sym,
+}
+
+/// Puts the atoms of a node pattern behind others.
+pub(crate) fn add_node(
+    atoms: &mut AtomList,
+    naming: &Naming<'_>,
+    graph: u32,
+    element: &Element,
+) -> Result<(), Memory>
+    ensures { OnOk result (atoms.new.items ≡ atoms.old.items ++ node_atoms naming.now graph element.now) }
+{
+    let x = naming.variable(element)?;
+    let labels = element.labels.copy()?;
+    atoms.push(Atom {
+        graph,
+        what: AtomWhat::Node { x, labels },
+    })?;
+    add_properties(atoms, graph, x, Kind::Node, &element.properties)
+}
+
+/// Puts the atoms of an edge pattern behind others.
+pub(crate) fn add_edge(
+    atoms: &mut AtomList,
+    naming: &Naming<'_>,
+    link: Link,
+    way: Direction,
+    element: &Element,
+) -> Result<(), Memory>
+    ensures { OnOk result (atoms.new.items ≡ atoms.old.items ++ edge_atoms naming.now link.graph link.left link.right way element.now) }
+{
+    let e = naming.variable(element)?;
+    let labels = element.labels.copy()?;
+    atoms.push(Atom {
+        graph: link.graph,
+        what: AtomWhat::Edge {
+            x: link.left,
+            e,
+            y: link.right,
+            way,
+            labels,
+        },
+    })?;
+    add_properties(atoms, link.graph, e, Kind::Edge, &element.properties)
+}
+
+// Puts the atoms of the properties of an element behind others.
+fn add_properties(
+    atoms: &mut AtomList,
+    graph: u32,
+    x: Sym,
+    kind: Kind,
+    properties: &PropertyUseList,
+) -> Result<(), Memory>
+    ensures { OnOk result (atoms.new.items ≡ atoms.old.items ++ map (property_atom graph x kind) properties.now) }
+{
+    for asked in properties.as_slice() {
+        let name = asked.property.copy()?;
+        atoms.push(Atom {
+            graph,
+            what: AtomWhat::Property {
+                x,
+                kind,
+                name,
+                value: asked.value.sym,
+            },
+        })?;
+    }
+    Ok(())
+}
