@@ -4,5 +4,3 @@ pub mod RunLaws
 pub mod QueryFileLaws
 pub mod SortedFiles
 pub mod TextPlaces
-pub mod ThinTreeLaws
-pub mod TreeParts

@@ -23,9 +23,9 @@ use Rattle.gc_parse.proofs.Prefixes.{none_at_all, none_at_first}
 use Rattle.gc_sorts.specs.declared.breach.Breach.{Breach}
 use Rattle.gc_sorts.specs.declared.breach.SortRule.{SortRule}
 use Rattle.gc_sorts.specs.SortRules.{first_breach}
-use Rattle.gcore.specs.Outcomes.{built, label_of, then_due}
+use Rattle.gcore.specs.Outcomes.{built, query_of, then_due}
 use Rattle.gcore.specs.QueryFiles.{breach_place, first_place, sorted_at, statements_in, statements_at, token_place, unless_broken}
-use Rattle.gcore.specs.ThinTrees.{thin_label}
+use Rattle.gc_query.specs.NodeQueries.{NodeQuery, node_query}
 use Rattle.gcore.specs.declared.stop.Stop.{Stop}
 use Rattle.gcore.specs.declared.stop.Stop.TheVariants.{Sorts, Text}
 use Rattle.gcore.specs.declared.text_refusal.TextRefusal.{TextRefusal}
@@ -162,19 +162,19 @@ parsed_spells ts statements h = by (depth_fault_in ts) refl h
     by (Some k) is e = absurd (cc)
 
 -- what statements ask for
-abbrev asked : List (Tree AStatement) → Result (List ℕ) Stop
-asked statements = built (thin_label statements)
+abbrev asked : List (Tree AStatement) → Result NodeQuery Stop
+asked statements = built (node_query statements)
 
-not_text : (o : Option (List ℕ)) (refusal : TextRefusal) → built o ≡ Err (Text refusal) → ⊥
+not_text : (o : Option NodeQuery) (refusal : TextRefusal) → built o ≡ Err (Text refusal) → ⊥
 not_text None refusal h = cc
-not_text (Some label) refusal h = cc
+not_text (Some query) refusal h = cc
 
-not_sorts : (o : Option (List ℕ)) (rule : SortRule) (place : Place) → built o ≡ Err (Sorts rule place) → ⊥
+not_sorts : (o : Option NodeQuery) (rule : SortRule) (place : Place) → built o ≡ Err (Sorts rule place) → ⊥
 not_sorts None rule place h = cc
-not_sorts (Some label) rule place h = cc
+not_sorts (Some query) rule place h = cc
 
 sorted_no_text : (places : List Place) (statements : List (Tree AStatement)) (found : Option Breach) (refusal : TextRefusal) → then_due (unless_broken places statements found) asked ≡ Err (Text refusal) → ⊥
-sorted_no_text places statements None refusal h = not_text (thin_label statements) refusal h
+sorted_no_text places statements None refusal h = not_text (node_query statements) refusal h
 sorted_no_text places statements (Some breach) refusal h = cc
 
 module _ (graphs : List (List ℕ)) where
@@ -194,7 +194,7 @@ module _ (graphs : List (List ℕ)) where
 
   breach_of : (places : List Place) (statements : List (Tree AStatement)) (found : Option Breach) (rule : SortRule) (place : Place) → then_due (unless_broken places statements found) asked ≡ Err (Sorts rule place)
       → (breach : Breach) × (found ≡ Some breach) × (rule ≡ breach.rule) × (place ≡ breach_place places breach)
-  breach_of places statements None rule place h = absurd (not_sorts (thin_label statements) rule place h)
+  breach_of places statements None rule place h = absurd (not_sorts (node_query statements) rule place h)
   breach_of places statements (Some breach) rule place h = (breach, refl, cc, cc)
 
   broken_parse : (places : List Place) (r : Result (List (Tree AStatement)) ParseRefusal) (rule : SortRule) (place : Place) → then_due (statements_at graphs places r) asked ≡ Err (Sorts rule place)
@@ -237,22 +237,22 @@ module _ (graphs : List (List ℕ)) where
 
   -- the statements that are spelled are tested against the sort rules
   asked_as_sorted : (text : List ℕ) (list : TokenList) (statements : List (Tree AStatement)) → lexed text ≡ Ok list → IsDepthFault list.tokens None → SpellsFile list.tokens statements
-      → label_of graphs text ≡ then_due (sorted_at graphs list.places statements) asked
+      → query_of graphs text ≡ then_due (sorted_at graphs list.places statements) asked
   asked_as_sorted text list statements h none spelled =
       ap (λ l. then_due (statements_in graphs l) asked) h ∙ ap (λ r. then_due (statements_at graphs list.places r) asked) (parsed_spelled list.tokens statements none spelled)
 
   -- the laws of query files
   pub asked_as_spelled : (text : List ℕ) (list : TokenList) (statements : List (Tree AStatement)) → lexed text ≡ Ok list → IsDepthFault list.tokens None → SpellsFile list.tokens statements
-      → first_breach graphs (row statements) ≡ None → label_of graphs text ≡ built (thin_label statements)
+      → first_breach graphs (row statements) ≡ None → query_of graphs text ≡ built (node_query statements)
   asked_as_spelled text list statements h none spelled sorted =
       asked_as_sorted text list statements h none spelled ∙ ap (λ found. then_due (unless_broken list.places statements found) asked) sorted
 
   pub told_as_broken : (text : List ℕ) (list : TokenList) (statements : List (Tree AStatement)) (breach : Breach) → lexed text ≡ Ok list → IsDepthFault list.tokens None → SpellsFile list.tokens statements
-      → first_breach graphs (row statements) ≡ Some breach → label_of graphs text ≡ Err (Sorts breach.rule (breach_place list.places breach))
+      → first_breach graphs (row statements) ≡ Some breach → query_of graphs text ≡ Err (Sorts breach.rule (breach_place list.places breach))
   told_as_broken text list statements breach h none spelled broken =
       asked_as_sorted text list statements h none spelled ∙ ap (λ found. then_due (unless_broken list.places statements found) asked) broken
 
-  pub broken_as_told : (text : List ℕ) (rule : SortRule) (place : Place) → label_of graphs text ≡ Err (Sorts rule place)
+  pub broken_as_told : (text : List ℕ) (rule : SortRule) (place : Place) → query_of graphs text ≡ Err (Sorts rule place)
       → (list : TokenList) × (statements : List (Tree AStatement)) × (breach : Breach) × (lexed text ≡ Ok list) × IsDepthFault list.tokens None × SpellsFile list.tokens statements
       × (first_breach graphs (row statements) ≡ Some breach) × (rule ≡ breach.rule) × (place ≡ breach_place list.places breach)
   broken_as_told text rule place h =
@@ -260,7 +260,7 @@ module _ (graphs : List (List ℕ)) where
       let spells = parsed_spells found.0.tokens found.1 found.4 in
       (found.0, found.1, found.2, found.3, spells.0, spells.1, found.5, found.6, found.7)
 
-  pub asked_too_deep : (text : List ℕ) (place : Place) → label_of graphs text ≡ Err (Text (TooDeep place))
+  pub asked_too_deep : (text : List ℕ) (place : Place) → query_of graphs text ≡ Err (Text (TooDeep place))
       → (list : TokenList) × (k : ℕ) × (lexed text ≡ Ok list) × (slice_get list.places k ≡ Some place) × IsDepthFault list.tokens (Some k)
   asked_too_deep text place h =
       let found = deep_tokens (lexed text) place h in
@@ -271,7 +271,7 @@ module _ (graphs : List (List ℕ)) where
       let count = places_count text list found.1 in
       (list, k, found.1, item_there list.places k place first_place (omega (arith, count, within)) found.2.2, fault)
 
-  pub asked_refused : (text : List ℕ) (place : Place) → label_of graphs text ≡ Err (Text (Syntax place))
+  pub asked_refused : (text : List ℕ) (place : Place) → query_of graphs text ≡ Err (Text (Syntax place))
       → (list : TokenList) × (k : ℕ) × (lexed text ≡ Ok list) × (slice_get list.places k ≡ Some place) × IsRefusedAt SpellsFile list.tokens k
   asked_refused text place h =
       let found = refused_tokens (lexed text) place h in

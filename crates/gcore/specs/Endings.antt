@@ -4,9 +4,11 @@ use Rattle.std.specs.Option.{ForSome}
 use Rattle.std.specs.Io.KnownBytes.{append_known}
 use Rattle.gc_base.specs.Faults.{Rose}
 use Rattle.gc_base.specs.Files.{Files}
+use Rattle.gc_query.specs.NodeQueries.{NodeQuery}
+use Rattle.gc_spec.specs.PropertyGraph.{PropertyGraph}
 use Rattle.gcore.specs.GraphLines.{IsHeld}
 use Rattle.gcore.specs.Lines.{line_of, status_of}
-use Rattle.gcore.specs.Outcomes.{outcome, text_of, graphs_due}
+use Rattle.gcore.specs.Outcomes.{IsTextDue, IsTextOf, outcome, graphs_due}
 use Rattle.gcore.specs.TextLines.{IsHeldPlace, IsHeldText}
 use Rattle.gcore.specs.declared.command.Command.{Command}
 use Rattle.gcore.specs.declared.command.Command.TheVariants.{Run, Cert, Explain, Check, Make}
@@ -58,6 +60,16 @@ WritesText out text (Err Unwritten) = Failed out × GainsPrefix out text
 WritesText out text (Err OutOfMemory) = GainsNothing out
 WritesText out text (Err stop) = ⊥
 
+-- a request over these graphs was answered: a text that answers it was written, or there is no request, since the query is
+-- not built
+abbrev pub WritesAnswer : List (List ℕ) → List PropertyGraph → Option NodeQuery → Change → Result (Unit {0}) Stop → Type 0
+WritesAnswer names graphs None out (Err NotBuilt) = GainsNothing out
+WritesAnswer names graphs None out (Err OutOfMemory) = GainsNothing out
+WritesAnswer names graphs None out result = ⊥
+WritesAnswer names graphs (Some query) out (Err OutOfMemory) = GainsNothing out
+WritesAnswer names graphs (Some query) out result =
+    (text : List ℕ) × IsTextOf (record { names = names; graphs = graphs; query = query }) text × WritesText out text result
+
 -- the folder's count of faults rose in the call
 abbrev pub ReadFault : Call → Type 0
 ReadFault call = Rose call.faults_before call.faults_after
@@ -66,9 +78,9 @@ ReadFault call = Rose call.faults_before call.faults_after
 abbrev pub IsDue : Call → Stop → Type 0
 IsDue call stop = IfSome call.files (λ files. outcome call.command files ≡ Err stop)
 
--- where the files are told, `out` gained the beginning of the text that is due
+-- where the files are told, `out` gained nothing, or the beginning of a text that is due
 abbrev pub GainsDuePrefix : Call → Type 0
-GainsDuePrefix call = IfSome call.files (λ files. GainsPrefix call.out (text_of (outcome call.command files)))
+GainsDuePrefix call = IfSome call.files (λ files. GainsNothing call.out ⊎ ((text : List ℕ) × IsTextDue (outcome call.command files) text × GainsPrefix call.out text))
 
 -- a graph file's turn comes once those before it are accepted
 abbrev pub IsTurnOfGraph : Option Files → List Pair → List ℕ → Type 0
@@ -130,9 +142,9 @@ StopsFor call NotBuilt = IsSome call.command × IsDue call NotBuilt × GainsNoth
 StopsFor call Unwritten = IsSome call.command × Failed call.out × GainsDuePrefix call
 StopsFor call OutOfMemory = GainsDuePrefix call
 
--- the call did what is due: where the files are told, `out` gained exactly the text that is due
+-- the call did what is due: where the files are told, `out` gained exactly a text that answers what is asked
 abbrev pub Finishes : Call → Type 0
-Finishes call = IsSome call.command × IfSome call.files (λ files. (text : List ℕ) × (outcome call.command files ≡ Ok text) × Gains call.out text)
+Finishes call = IsSome call.command × IfSome call.files (λ files. (text : List ℕ) × IsTextDue (outcome call.command files) text × Gains call.out text)
 
 -- a call finishes, or stops for a cause
 abbrev pub Answers : Call → Result (Unit {0}) Stop → Type 0
@@ -176,10 +188,15 @@ MayStop command (Text refusal) = IsSomeAnd command HasQuery × IsHeldText refusa
 MayStop command (Sorts rule place) = IsSomeAnd command HasQuery × IsHeldPlace place
 MayStop command stop = ⊤
 
--- a told room of `out` holds the text that is due, for which the files have to be told
+-- a told room of `out` holds each text that is due, for which the files have to be told
 abbrev pub HoldsText : Option ℕ → Option Files → Option Command → Type 0
-HoldsText room told command = ForSome room (λ r. IsSomeAnd told (λ files. length (text_of (outcome command files)) ≤ r))
+HoldsText room told command = ForSome room (λ r. IsSomeAnd told (λ files. (text : List ℕ) → IsTextDue (outcome command files) text → length text ≤ r))
 
 -- a told room of `err` holds each line that may be due
 abbrev pub HoldsLines : Option ℕ → Option Command → Type 0
 HoldsLines room command = ForSome room (λ r. (stop : Stop) → MayStop command stop → length (line_of stop) ≤ r)
+
+-- a told room of `out` holds each text that answers a request over these graphs
+abbrev pub HoldsAnswer : Option ℕ → List (List ℕ) → List PropertyGraph → Option NodeQuery → Type 0
+HoldsAnswer room names graphs None = ⊤
+HoldsAnswer room names graphs (Some query) = ForSome room (λ r. (text : List ℕ) → IsTextOf (record { names = names; graphs = graphs; query = query }) text → length text ≤ r)

@@ -10,4 +10,3 @@ pub mod QueryFiles
 pub mod SortLines
 pub mod Steps
 pub mod TextLines
-pub mod ThinTrees

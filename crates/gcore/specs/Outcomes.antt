@@ -1,15 +1,16 @@
--- The outcome of a call: the text due on standard output, or the stop that is due.
-use Rattle.std.specs.Prelude.{ℕ, List, [], ◌∷◌, ◌++◌, length, map, nat_lt, if◌then◌else◌, Some, None, Option, Result, Ok, Err}
+-- The outcome of a call: what it is asked and the texts that answer it, or the stop that is due.
+use Rattle.std.specs.Prelude.{◌≡◌, ℕ, List, [], ◌∷◌, ◌++◌, length, map, nat_lt, if◌then◌else◌, Some, None, Option, Result, Ok, Err}
 use Rattle.gc_base.specs.Files.{Files, file_of}
 use Rattle.gc_spec.specs.Coherence.{shapes_of}
 use Rattle.gc_spec.specs.PropertyGraph.{PropertyGraph}
-use Rattle.gc_ppg.specs.Labelled.{nodes_with_label}
+use Rattle.gc_ast.specs.Trees.{Tree, AStatement}
 use Rattle.gc_json.specs.CanonicalText.{canonical_text}
 use Rattle.gc_json.specs.FileElements.{Seen}
 use Rattle.gc_json.specs.GraphFiles.{file_graph}
 use Rattle.gc_json.specs.declared.refusal.GraphRefusal.{GraphRefusal}
+use Rattle.gc_query.specs.NodeAnswers.{IsAnswer}
+use Rattle.gc_query.specs.NodeQueries.{NodeQuery, node_query}
 use Rattle.gcore.specs.QueryFiles.{statements_of}
-use Rattle.gcore.specs.ThinTrees.{thin_label}
 use Rattle.gcore.specs.declared.command.Command.{Command}
 use Rattle.gcore.specs.declared.command.Command.TheVariants.{Run, Cert, Explain, Check, Make}
 use Rattle.gcore.specs.declared.command.CommandRefusal.{CommandRefusal}
@@ -53,38 +54,53 @@ graphs_due files seen [] = Ok []
 graphs_due files seen (pair ∷ pairs) =
     then_due (graph_due files seen pair.file) (λ g. then_due (graphs_due files (seen ++ shapes_of g ∷ []) pairs) (λ gs. Ok (g ∷ gs)))
 
--- what is built: whatever is no thin query is not
+-- what is built: whatever is no query of nodes is not
 abbrev pub built : {A : Type 0} → Option A → Result A Stop
 built None = Err NotBuilt
 built (Some x) = Ok x
 
--- the label that the bytes of a query file ask for, over graphs of these names
-abbrev pub label_of : List (List ℕ) → List ℕ → Result (List ℕ) Stop
-label_of graphs bytes = then_due (statements_of graphs bytes) (λ statements. built (thin_label statements))
+-- what the bytes of a query file ask for, over graphs of these names
+abbrev pub query_of : List (List ℕ) → List ℕ → Result NodeQuery Stop
+query_of graphs bytes = then_due (statements_of graphs bytes) (λ statements. built (node_query statements))
 
--- the label of a query file
-abbrev pub label_due : List (List ℕ) → Files → List ℕ → Result (List ℕ) Stop
-label_due graphs files name = then_due (file_due files name query_limit) (label_of graphs)
+-- the statements of a query file
+abbrev pub statements_due : List (List ℕ) → Files → List ℕ → Result (List (Tree AStatement)) Stop
+statements_due graphs files name = then_due (file_due files name query_limit) (statements_of graphs)
+
+-- what a query file asks for
+abbrev pub query_due : List (List ℕ) → Files → List ℕ → Result NodeQuery Stop
+query_due graphs files name = then_due (file_due files name query_limit) (query_of graphs)
 
 -- the names of graph files, in the order of the words
 abbrev pub graph_names : List Pair → List (List ℕ)
 graph_names pairs = map (λ (p : Pair). p.name) pairs
 
--- the text of the nodes of a label, and a line feed
-unfoldable pub printed : PropertyGraph → List ℕ → List ℕ
-printed g label = canonical_text (nodes_with_label g label) ++ 10 ∷ []
+-- what a run is asked: the names of the graphs, the graphs, and the query
+pub record Request : Type 0 where
+  pub names : List (List ℕ)
+  pub graphs : List PropertyGraph
+  pub query : NodeQuery
 
--- the answer on the default graph, which is the first
-abbrev pub first_printed : List PropertyGraph → List ℕ → Result (List ℕ) Stop
-first_printed [] label = Err Usage
-first_printed (g ∷ gs) label = Ok (printed g label)
+abbrev pub request : List (List ℕ) → List PropertyGraph → NodeQuery → Result Request Stop
+request names graphs query = Ok (record { names = names; graphs = graphs; query = query })
 
--- first the graph files, then the query file, then the answer
-abbrev pub run_due : Files → List ℕ → List Pair → Result (List ℕ) Stop
-run_due files query pairs = then_due (graphs_due files [] pairs) (λ gs. then_due (label_due (graph_names pairs) files query) (first_printed gs))
+-- the text of a graph, and a line feed
+unfoldable pub printed : PropertyGraph → List ℕ
+printed g = canonical_text g ++ 10 ∷ []
 
--- what a command gives; those that are not built yet stop directly
-abbrev pub command_due : Files → Command → Result (List ℕ) Stop
+-- a text answers a request where it is that of a graph that does
+pub record IsTextOf (r : Request) (text : List ℕ) : Type 0 where
+  pub graph : PropertyGraph
+  pub answer : IsAnswer r.names r.graphs r.query graph
+  pub text : text ≡ printed graph
+
+-- first the graph files, then the query file
+abbrev pub run_due : Files → List ℕ → List Pair → Result Request Stop
+run_due files query pairs =
+    then_due (graphs_due files [] pairs) (λ gs. then_due (query_due (graph_names pairs) files query) (request (graph_names pairs) gs))
+
+-- what a command is asked; those that are not built yet stop directly
+abbrev pub command_due : Files → Command → Result Request Stop
 command_due files (Run query pairs) = run_due files query pairs
 command_due files (Cert query pairs) = Err NotBuilt
 command_due files (Explain query pairs) = Err NotBuilt
@@ -96,14 +112,14 @@ abbrev pub form_due : Option Command → Result Command Stop
 form_due None = Err Usage
 form_due (Some command) = Ok command
 
--- the outcome of a call, by the command that its words are, if any
-abbrev pub outcome : Option Command → Files → Result (List ℕ) Stop
+-- the outcome of a call, what it is asked or the stop that is due, by the command that its words are, if any
+abbrev pub outcome : Option Command → Files → Result Request Stop
 outcome command files = then_due (form_due command) (command_due files)
 
--- the text of an outcome, which a stop has none of
-abbrev pub text_of : Result (List ℕ) Stop → List ℕ
-text_of (Ok text) = text
-text_of (Err stop) = []
+-- a text is due where it answers what is asked; a stop has none
+abbrev pub IsTextDue : Result Request Stop → List ℕ → Type 0
+IsTextDue (Ok r) text = IsTextOf r text
+IsTextDue (Err stop) text = ⊥
 
 -- why there is no command, as a stop
 abbrev pub stop_of_command : CommandRefusal → Stop

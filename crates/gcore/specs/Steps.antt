@@ -2,6 +2,9 @@
 use Rattle.std.specs.Prelude.{◌≡◌, ℕ, List, Option, Result, Ok, Err, IfSome, MatchOption, ⊤, ◌⊎◌}
 use Rattle.gc_base.specs.Faults.{Rose}
 use Rattle.gc_base.specs.Files.{Files}
+use Rattle.gc_ast.specs.QueryViews.{file_trees}
+use Rattle.gc_ast.specs.Trees.{Tree, AStatement}
+use Rattle.gc_sorts.specs.declared.checked.Checked.{Checked}
 use Rattle.gcore.specs.declared.stop.Stop.{Stop}
 use Rattle.gcore.specs.declared.stop.Stop.TheVariants.{Usage, Unread, TooLarge, Refused, Text, Sorts, NotBuilt, Unwritten, OutOfMemory}
 
@@ -23,15 +26,6 @@ StopsReading reading name due (Sorts rule place) = ⊥
 StopsReading reading name due NotBuilt = IfSome reading.files (λ files. due files ≡ Err NotBuilt)
 StopsReading reading name due Unwritten = ⊥
 StopsReading reading name due OutOfMemory = ⊤
-
--- what the bytes of a query file ask for is given, or the refusal is told, or that it is not built
-abbrev pub Asks : {A : Type 0} → Result A Stop → Result A Stop → Type 0
-Asks due (Ok x) = due ≡ Ok x
-Asks due (Err (Text refusal)) = due ≡ Err (Text refusal)
-Asks due (Err (Sorts rule place)) = due ≡ Err (Sorts rule place)
-Asks due (Err NotBuilt) = due ≡ Err NotBuilt
-Asks due (Err OutOfMemory) = ⊤
-Asks due (Err stop) = ⊥
 
 -- a graph that is due is given, or the rule that is broken is told
 abbrev pub Accepts : {A : Type 0} → Result A Stop → Result A Stop → Type 0
@@ -58,6 +52,7 @@ StopsReadingQuery reading name due (Text refusal) = IfSome reading.files (λ fil
 StopsReadingQuery reading name due (Sorts rule place) = IfSome reading.files (λ files. due files ≡ Err (Sorts rule place))
 StopsReadingQuery reading name due stop = StopsReading reading name due stop
 
-abbrev pub ReadsQuery : {A : Type 0} → Reading → List ℕ → (Files → Result A Stop) → Result A Stop → Type 0
-ReadsQuery reading name due (Ok x) = IfSome reading.files (λ files. due files ≡ Ok x)
+-- a file of the statements that are due is given, or a stop
+abbrev pub ReadsQuery : Reading → List ℕ → (Files → Result (List (Tree AStatement)) Stop) → Result Checked Stop → Type 0
+ReadsQuery reading name due (Ok checked) = IfSome reading.files (λ files. due files ≡ Ok (file_trees checked.file))
 ReadsQuery reading name due (Err stop) = StopsReadingQuery reading name due stop

@@ -1,20 +1,24 @@
 ghost use Rattle.std.specs.Prelude.{◌≡◌, true, Some, length, IfOk};
 ghost use Rattle.gc_base.specs.Sinks.{HasRoom};
+ghost use Rattle.gc_ast.specs.QueryViews.{file_trees};
+ghost use Rattle.gc_query.specs.NodeQueries.{node_query};
 ghost use Rattle.gcore.specs.Outcomes.{printed};
 ghost use Rattle.gcore.specs.Pairs.{are_graphs};
 ghost use Rattle.gcore.specs.CommandLines.{HasGraphs};
-ghost use Rattle.gcore.specs.Endings.{Answers, Call, Change, HoldsText, WritesText};
+ghost use Rattle.gcore.specs.Endings.{Answers, Call, Change, HoldsAnswer, HoldsText, WritesAnswer, WritesText};
 ghost use Rattle.gcore.specs.declared.command.Command.TheVariants.{Run};
 
 use crate::command::Command;
 use crate::graphs::read_graphs;
-use crate::inputs::read_label;
+use crate::inputs::read_query;
 use crate::pair::{Pair, names_of};
 use crate::stop::Stop;
-use gc_base::{Bytes, Memory, Name, Steps, Str};
+use gc_ast::File;
+use gc_base::{Bytes, Memory, NameList, Steps, Str};
 use gc_io::{Folder, Sink, SinkFault, write_whole};
 use gc_json::print;
-use gc_ppg::Graph;
+use gc_ppg::{Graph, GraphList};
+use gc_query::answer;
 use std::alloc::Global;
 use std::mem::ManuallyDrop;
 use std::sync::ledger::Ledger;
@@ -69,41 +73,64 @@ fn run_query<F: Folder, S: Sink, L: Ledger>(
 {
     let catalog = read_graphs(alloc, folder, pairs)?;
     let names = names_of(alloc, pairs)?;
-    let label = read_label(alloc, folder, query, &names)?;
-    let written = write_labelled(alloc, catalog.graphs().at(0), &label, out, steps);
+    let checked = read_query(alloc, folder, query, &names)?;
+    let written = write_answer(
+        alloc,
+        checked.file(),
+        &names,
+        catalog.graphs(),
+        out,
+        steps,
+    );
     // The program ends with the answer, and the system takes the memory of the graphs back whole.
     let _kept = ManuallyDrop::new(catalog);
     written
 }
 
-// Writes the text of the nodes of a label.
-fn write_labelled<S: Sink, L: Ledger>(
+// Writes what a query file asks for over graphs of these names, if it is built.
+fn write_answer<S: Sink, L: Ledger>(
     alloc: Global,
-    graph: &Graph,
-    label: &Name,
+    file: &File,
+    names: &NameList,
+    graphs: &GraphList,
     out: &mut S,
     steps: &mut Steps<L>,
 ) -> Result<(), Stop>
-    requires { HasRoom (S.room out.old) (length (printed graph.now label.now)) }
-    ensures { WritesText (record { faults_before = S.faults out.old; faults_after = S.faults out.new; taken_before = S.taken out.old; taken_after = S.taken out.new }) (printed graph.now label.now) result }
+    requires { HoldsAnswer (S.room out.old) names.now graphs.now (node_query (file_trees file.now)) }
+    ensures { WritesAnswer names.now graphs.now (node_query (file_trees file.now)) (record { faults_before = S.faults out.old; faults_after = S.faults out.new; taken_before = S.taken out.old; taken_after = S.taken out.new }) result }
 {
-    match print_labelled(alloc, graph, label, steps) {
+    match answer(alloc, file, names, graphs, steps) {
+        Ok(Some(graph)) => write_graph(alloc, &graph, out, steps),
+        Ok(None) => Err(Stop::NotBuilt),
+        Err(Memory) => Err(Stop::OutOfMemory),
+    }
+}
+
+// Writes the text of a graph.
+fn write_graph<S: Sink, L: Ledger>(
+    alloc: Global,
+    graph: &Graph,
+    out: &mut S,
+    steps: &mut Steps<L>,
+) -> Result<(), Stop>
+    requires { HasRoom (S.room out.old) (length (printed graph.now)) }
+    ensures { WritesText (record { faults_before = S.faults out.old; faults_after = S.faults out.new; taken_before = S.taken out.old; taken_after = S.taken out.new }) (printed graph.now) result }
+{
+    match print_graph(alloc, graph, steps) {
         Ok(text) => write_text(out, text.as_slice()),
         Err(Memory) => Err(Stop::OutOfMemory),
     }
 }
 
-// The text of the nodes of a label, and a line feed.
-fn print_labelled<L: Ledger>(
+// The text of a graph, and a line feed.
+fn print_graph<L: Ledger>(
     alloc: Global,
     graph: &Graph,
-    label: &Name,
     steps: &mut Steps<L>,
 ) -> Result<Bytes, Memory>
-    ensures { IfOk result (λ text. text ≡ printed graph.now label.now) }
+    ensures { IfOk result (λ text. text ≡ printed graph.now) }
 {
-    let selected = graph.labelled(alloc, label)?;
-    let mut text = print(alloc, &selected, steps)?;
+    let mut text = print(alloc, graph, steps)?;
     text.push(b'\n')?;
     Ok(text)
 }

@@ -1,16 +1,16 @@
 ghost use Rattle.std.specs.Prelude.{◌≡◌, ◌≤◌, true, IfOk};
 ghost use Rattle.gc_json.specs.GraphFiles.{file_graph};
 ghost use Rattle.gc_ppg.specs.Shapes.{graph_agrees};
-ghost use Rattle.gcore.specs.Outcomes.{accepted, file_due, graph_due, label_due, label_of};
-ghost use Rattle.gcore.specs.Steps.{Accepts, Asks, Reads, ReadsGraph, ReadsQuery, Reading};
+ghost use Rattle.gcore.specs.Outcomes.{accepted, file_due, graph_due, statements_due};
+ghost use Rattle.gcore.specs.Steps.{Accepts, Reads, ReadsGraph, ReadsQuery, Reading};
 
 use crate::query_file::query_file;
 use crate::stop::Stop;
-use crate::thin_tree::thin_label;
-use gc_base::{Bytes, Duplicate, Name, NameList, Str};
+use gc_base::{Bytes, Duplicate, NameList, Str};
 use gc_io::{Folder, ReadRefusal, read_whole};
 use gc_json::{GraphRefusal, load};
 use gc_ppg::{Coherence, Graph};
+use gc_sorts::Checked;
 use std::alloc::Global;
 
 /// How many bytes a graph file may have.
@@ -47,30 +47,19 @@ fn load_named(alloc: Global, bytes: &[u8], name: &Str, seen: &Coherence) -> Resu
     }
 }
 
-/// The label of a query file over graphs of these names.
-pub fn read_label<F: Folder>(
+/// A query file over graphs of these names.
+pub fn read_query<F: Folder>(
     alloc: Global,
     folder: &mut F,
     name: &Str,
     graphs: &NameList,
-) -> Result<Name, Stop>
-    ensures outcome { ReadsQuery (record { files = F.files folder.old; faults_before = F.faults folder.old; faults_after = F.faults folder.new }) name.now (λ files. label_due graphs.now files name.now) result }
+) -> Result<Checked, Stop>
+    ensures outcome { ReadsQuery (record { files = F.files folder.old; faults_before = F.faults folder.old; faults_after = F.faults folder.new }) name.now (λ files. statements_due graphs.now files name.now) result }
     ensures later { F.faults folder.old ≤ F.faults folder.new }
     ensures kept { F.files folder.new ≡ F.files folder.old }
 {
     let bytes = read_file(alloc, folder, name, QUERY_LIMIT)?;
-    label_in(alloc, bytes.as_slice(), graphs)
-}
-
-// The label that the bytes of a query file ask for.
-fn label_in(alloc: Global, bytes: &[u8], graphs: &NameList) -> Result<Name, Stop>
-    ensures { Asks (label_of graphs.now bytes.now) result }
-{
-    let checked = query_file(alloc, bytes, graphs)?;
-    match thin_label(checked.file()) {
-        Some(label) => Ok(label.copy()?),
-        None => Err(Stop::NotBuilt),
-    }
+    query_file(alloc, bytes.as_slice(), graphs)
 }
 
 // A file of at most `limit` bytes.

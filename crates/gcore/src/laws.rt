@@ -8,9 +8,9 @@ ghost use Rattle.gc_readers.specs.Refusals.{IsRefusedAt};
 ghost use Rattle.gc_sorts.specs.declared.breach.Breach.{Breach};
 ghost use Rattle.gc_sorts.specs.declared.breach.SortRule.{SortRule};
 ghost use Rattle.gc_sorts.specs.SortRules.{first_breach};
-ghost use Rattle.gcore.specs.Outcomes.{built, label_of};
+ghost use Rattle.gcore.specs.Outcomes.{built, query_of};
 ghost use Rattle.gcore.specs.QueryFiles.{breach_place};
-ghost use Rattle.gcore.specs.ThinTrees.{thin_label};
+ghost use Rattle.gc_query.specs.NodeQueries.{node_query};
 ghost use Rattle.gcore.specs.declared.stop.Stop.TheVariants.{Sorts, Text};
 ghost use Rattle.gcore.specs.declared.text_refusal.TextRefusal.TheVariants.{TooDeep, Syntax};
 
@@ -19,9 +19,9 @@ ghost use Rattle.gcore.specs.declared.text_refusal.TextRefusal.TheVariants.{TooD
 /// first and where, exactly there; where the brackets are too deep; or a token up to which no list of
 /// tokens spells a file.
 pub fn a_query_file_asks_what_its_tokens_spell()
-    ensures spelled { (graphs : List (List ℕ)) (text : List ℕ) (list : TokenList) (statements : List (Tree AStatement)) → lexed text ≡ Ok list → IsDepthFault list.tokens None → SpellsFile list.tokens statements → first_breach graphs (row statements) ≡ None → label_of graphs text ≡ built (thin_label statements) }
-    ensures broken { (graphs : List (List ℕ)) (text : List ℕ) (list : TokenList) (statements : List (Tree AStatement)) (breach : Breach) → lexed text ≡ Ok list → IsDepthFault list.tokens None → SpellsFile list.tokens statements → first_breach graphs (row statements) ≡ Some breach → label_of graphs text ≡ Err (Sorts breach.rule (breach_place list.places breach)) }
-    ensures told { (graphs : List (List ℕ)) (text : List ℕ) (rule : SortRule) (place : Place) → label_of graphs text ≡ Err (Sorts rule place) → (list : TokenList) × (statements : List (Tree AStatement)) × (breach : Breach) × (lexed text ≡ Ok list) × IsDepthFault list.tokens None × SpellsFile list.tokens statements × (first_breach graphs (row statements) ≡ Some breach) × (rule ≡ breach.rule) × (place ≡ breach_place list.places breach) }
-    ensures deep { (graphs : List (List ℕ)) (text : List ℕ) (place : Place) → label_of graphs text ≡ Err (Text (TooDeep place)) → (list : TokenList) × (k : ℕ) × (lexed text ≡ Ok list) × (slice_get list.places k ≡ Some place) × IsDepthFault list.tokens (Some k) }
-    ensures refused { (graphs : List (List ℕ)) (text : List ℕ) (place : Place) → label_of graphs text ≡ Err (Text (Syntax place)) → (list : TokenList) × (k : ℕ) × (lexed text ≡ Ok list) × (slice_get list.places k ≡ Some place) × IsRefusedAt SpellsFile list.tokens k }
+    ensures spelled { (graphs : List (List ℕ)) (text : List ℕ) (list : TokenList) (statements : List (Tree AStatement)) → lexed text ≡ Ok list → IsDepthFault list.tokens None → SpellsFile list.tokens statements → first_breach graphs (row statements) ≡ None → query_of graphs text ≡ built (node_query statements) }
+    ensures broken { (graphs : List (List ℕ)) (text : List ℕ) (list : TokenList) (statements : List (Tree AStatement)) (breach : Breach) → lexed text ≡ Ok list → IsDepthFault list.tokens None → SpellsFile list.tokens statements → first_breach graphs (row statements) ≡ Some breach → query_of graphs text ≡ Err (Sorts breach.rule (breach_place list.places breach)) }
+    ensures told { (graphs : List (List ℕ)) (text : List ℕ) (rule : SortRule) (place : Place) → query_of graphs text ≡ Err (Sorts rule place) → (list : TokenList) × (statements : List (Tree AStatement)) × (breach : Breach) × (lexed text ≡ Ok list) × IsDepthFault list.tokens None × SpellsFile list.tokens statements × (first_breach graphs (row statements) ≡ Some breach) × (rule ≡ breach.rule) × (place ≡ breach_place list.places breach) }
+    ensures deep { (graphs : List (List ℕ)) (text : List ℕ) (place : Place) → query_of graphs text ≡ Err (Text (TooDeep place)) → (list : TokenList) × (k : ℕ) × (lexed text ≡ Ok list) × (slice_get list.places k ≡ Some place) × IsDepthFault list.tokens (Some k) }
+    ensures refused { (graphs : List (List ℕ)) (text : List ℕ) (place : Place) → query_of graphs text ≡ Err (Text (Syntax place)) → (list : TokenList) × (k : ℕ) × (lexed text ≡ Ok list) × (slice_get list.places k ≡ Some place) × IsRefusedAt SpellsFile list.tokens k }
 {}
