@@ -1,1 +1,2 @@
 pub mod BoundNodes
+pub mod Readings

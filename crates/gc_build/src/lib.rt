@@ -2,6 +2,8 @@
 //! Others rely on `bound_nodes`. This crate knows of no query file and finds no rows.
 #![tactic(auto)]
 
+mod descriptions;
+mod ids;
 mod nodes;
 
 pub use nodes::bound_nodes;

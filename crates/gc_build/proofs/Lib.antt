@@ -1,0 +1,4 @@
+pub mod Above
+pub mod Members
+pub mod Sorted
+pub mod Told
