@@ -1,5 +1,5 @@
 -- What right readings say of nodes is what the graphs of their variables say.
-use Rattle.std.proofs.Common.{◌≡◌, ◌==◌, ℕ, Bool, true, false, cond, List, [], ◌∷◌, map, fold, Option, Some, None, refl, sym, ap, ◌∙◌, subst}
+use Rattle.std.proofs.Common.{◌≡◌, ◌<◌, length, get_or, take, ◌==◌, ℕ, Bool, true, false, cond, List, [], ◌∷◌, map, fold, Option, Some, None, refl, sym, ap, ◌∙◌, subst}
 use Rattle.std.specs.List.{AllByRecursion, Contains, flat_map}
 use Rattle.std.specs.Ordering.{nat_cmp}
 use Rattle.gc_base.specs.Ascending.{Ascends}
@@ -9,7 +9,7 @@ use Rattle.gc_rows.proofs.Members.{of_member, from_flat_map, to_flat_map, to_map
 use Rattle.gc_spec.specs.PropertyGraph.{Node, PropertyGraph}
 use Rattle.gc_build.specs.BoundNodes.{Bindings, IsOfBoundNodes, ids_of, binds, node_in, read_node, united_if, with_reading, described, bare}
 use Rattle.gc_build.specs.Readings.{Reading, IsReading, told, with_told, told_by, graph_with}
-use Rattle.gc_build.proofs.Above.{ids_kept}
+use Rattle.gc_build.proofs.Above.{AreBelow, before_next, ids_kept}
 use Rattle.gc_build.proofs.Members.{same_test}
 
 told_keeps_id : (i : ℕ) (rs : List Reading) (a : Node) → (fold (with_told i) a rs).id ≡ a.id
@@ -19,6 +19,14 @@ told_keeps_id i (r ∷ rs) a = told_keeps_id i rs (with_told i a r) ∙ elim (to
 -- a node that readings describe has its identity
 pub told_id : (rs : List Reading) (i : ℕ) → (told_by rs i).id ≡ i
 told_id rs i = told_keeps_id i rs (bare i)
+
+-- a node that readings describe is above those of the identities before its own
+pub next_above : (rs : List Reading) (ids : List ℕ) (k i : ℕ) (node : Node) (g : PropertyGraph) → node ≡ told_by rs i → i ≡ get_or ids k i → Ascends nat_cmp ids → k < length ids
+    → g ≡ graph_with (map (told_by rs) (take k ids)) → AreBelow node.id g.nodes
+next_above rs ids k i node g is at up lt so_far =
+    let own : get_or ids k i ≡ node.id = sym (ap (λ n. n.id) is ∙ (told_id rs i ∙ at)) in
+    let nodes = ap (λ graph. graph.nodes) (sym so_far) in
+    subst (AreBelow node.id) nodes (subst (λ j. AreBelow j (map (told_by rs) (take k ids))) own (before_next (told_by rs) (told_id rs) ids k i up lt))
 
 one_told : (a : Node) (there : Bool) (o : Option Node) → united_if a (cond there o None) ≡ cond there (united_if a o) a
 one_told a true o = refl
