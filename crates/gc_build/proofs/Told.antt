@@ -28,7 +28,8 @@ next_above rs ids k i node g is at up lt so_far =
     let nodes = ap (λ graph. graph.nodes) (sym so_far) in
     subst (AreBelow node.id) nodes (subst (λ j. AreBelow j (map (told_by rs) (take k ids))) own (before_next (told_by rs) (told_id rs) ids k i up lt))
 
-one_told : (a : Node) (there : Bool) (o : Option Node) → united_if a (cond there o None) ≡ cond there (united_if a o) a
+-- what is said where a test passes
+pub one_told : (a : Node) (there : Bool) (o : Option Node) → united_if a (cond there o None) ≡ cond there (united_if a o) a
 one_told a true o = refl
 one_told a false o = refl
 

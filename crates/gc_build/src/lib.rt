@@ -3,6 +3,7 @@
 #![tactic(auto)]
 
 mod descriptions;
+mod distinct;
 mod ids;
 mod nodes;
 

@@ -8,6 +8,7 @@ ghost use Rattle.gc_build.specs.Readings.{graph_with, told_by};
 ghost use Rattle.gc_rows.specs.Tables.{HasExactly};
 
 use crate::descriptions::{Reading, described, readings};
+use crate::distinct::distinct;
 use crate::ids::ascending;
 use gc_base::{Id, Memory, Steps, Sym};
 use gc_ppg::{BuildRefusal, Graph, GraphBuilder, GraphList, NodeInfo};
@@ -29,7 +30,8 @@ pub fn bound_nodes<L: Ledger>(
     ensures { let b : Bindings = record { rows = rows.now; reads = reads.now; graphs = graphs.now } in
         IfOk result (IsOfBoundNodes b vars.now) }
 {
-    let readings = readings(alloc, vars, rows, reads, graphs)?;
+    let once = distinct(alloc, vars)?;
+    let readings = readings(alloc, &once, rows, reads, graphs)?;
     let ids = ascending(all_ids(alloc, &readings)?)?;
     told_graph(alloc, &ids, &readings, steps)
 }
