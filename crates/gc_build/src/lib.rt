@@ -6,5 +6,7 @@ mod descriptions;
 mod distinct;
 mod ids;
 mod nodes;
+#[cfg(test)]
+mod tests;
 
 pub use nodes::bound_nodes;
