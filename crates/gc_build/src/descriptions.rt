@@ -64,7 +64,12 @@ impl Reading<'_> {
     }
 
     // Adds to a node what the graph says of it.
-    fn tell<L: Ledger>(&self, id: Id, node: &mut NodeInfo, steps: &mut Steps<L>) -> Result<(), Memory>
+    fn tell<L: Ledger>(
+        &self,
+        id: Id,
+        node: &mut NodeInfo,
+        steps: &mut Steps<L>,
+    ) -> Result<(), Memory>
         ensures { OnOk result (node.new ≡ with_told id node.old self.now) }
     {
         if let Some(more) = self.told(id, steps) {
@@ -148,7 +153,11 @@ fn read_use(var: Sym, reads: &Reads) -> Option<&ReadUse>
 }
 
 // The node of an identity in a graph, if there is one.
-fn find_in<'a, L: Ledger>(graph: Option<&'a Graph>, id: Id, steps: &mut Steps<L>) -> Option<&'a NodeInfo>
+fn find_in<'a, L: Ledger>(
+    graph: Option<&'a Graph>,
+    id: Id,
+    steps: &mut Steps<L>,
+) -> Option<&'a NodeInfo>
     ensures { option_copied result ≡ node_in (option_copied graph.entry) id }
 {
     match graph {
