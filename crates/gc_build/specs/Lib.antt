@@ -1,1 +1,3 @@
 pub mod BoundNodes
+pub mod Readings
+pub mod Variables

@@ -2,6 +2,11 @@
 //! Others rely on `bound_nodes`. This crate knows of no query file and finds no rows.
 #![tactic(auto)]
 
+mod descriptions;
+mod distinct;
+mod ids;
 mod nodes;
+#[cfg(test)]
+mod tests;
 
 pub use nodes::bound_nodes;
