@@ -1,1 +1,3 @@
+pub mod NewIds
 pub mod Sets
+pub mod Turns

@@ -1,1 +1,4 @@
+pub mod Additions
 pub mod Descriptions
+pub mod Differences
+pub mod Elements

@@ -2,6 +2,9 @@
 //! of no query.
 #![tactic(auto)]
 
+mod additions;
 mod descriptions;
+mod lists;
+mod part;
 
 pub use descriptions::{unite_labels, unite_properties};
