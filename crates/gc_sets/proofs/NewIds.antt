@@ -1,13 +1,13 @@
 -- Which identities are new once an element is added.
-use Rattle.std.proofs.Common.{◌≡◌, ℕ, Bool, true, false, cond, ◌||◌, ◌==◌, List, [], ◌∷◌, ◌++◌, map, refl, sym, ◌∙◌, subst}
+use Rattle.std.proofs.Common.{◌≡◌, ℕ, Bool, true, false, cond, ◌||◌, ◌==◌, List, [], ◌∷◌, ◌++◌, map, fold, refl, sym, ◌∙◌, subst}
 use Rattle.std.specs.Ordering.{nat_cmp, on, is_lt, is_gt}
-use Rattle.std.specs.List.{filter}
+use Rattle.std.specs.List.{AllByRecursion, filter}
 use Rattle.std.proofs.lemmas.List.Folds.{list_any-append}
 use Rattle.gc_base.specs.Ascending.{with_item}
 use Rattle.gc_spec.specs.PropertyGraph.{PropertyGraph, Node, Edge, Path, is_among, is_walk, ids_of, node_ids, edge_ids, path_ids}
 use Rattle.gc_ppg.specs.Built.{with_node, with_edge, with_path}
-use Rattle.gc_sets.specs.Additions.{AreNew, with_nodes, with_edges, with_paths}
-use Rattle.gc_sets.specs.Differences.{stands}
+use Rattle.gc_sets.specs.Additions.{AreNew, with_nodes, with_edges, with_paths, nodes_alone, with_standing}
+use Rattle.gc_sets.specs.Elements.{stands}
 
 pub neither : (a b : Bool) → (a || b) ≡ false → (a ≡ false) × (b ≡ false)
 neither true b h = absurd (cc h)
@@ -54,6 +54,16 @@ module _ {X : Type 0} (key : X → ℕ) where
       let low : List X = filter (λ y. is_lt (nat_cmp (key y) (key x))) xs in
       let high : List X = filter (λ y. is_gt (nat_cmp (key y) (key x))) xs in
       among_append low (x ∷ high) q (not_in_filter _ xs q k) (or_not (key x == q) (is_among (map key high) q) h (not_in_filter _ xs q k))
+
+  -- what is none of an ascending list and none of the items that go in is none of them together
+  pub not_in-fold : (xs ys : List X) (q : ℕ) → is_among (map key xs) q ≡ false → is_among (map key ys) q ≡ false → is_among (map key (fold (with_item (on key nat_cmp)) xs ys)) q ≡ false
+  not_in-fold xs [] q h k = h
+  not_in-fold xs (y ∷ ys) q h k =
+      let parts = neither (key y == q) (is_among (map key ys) q) k in
+      not_in-fold (with_item (on key nat_cmp) xs y) ys q (not_in-with_item xs y q parts.0 h) parts.1
+
+  pub not_in-filter : (p : X → Bool) (xs : List X) (q : ℕ) → is_among (map key xs) q ≡ false → is_among (map key (filter p xs)) q ≡ false
+  not_in-filter = not_in_filter
 
 record IsIn (g : PropertyGraph) (q : ℕ) : Type 0 where
   nodes : is_among (node_ids g.nodes) q ≡ false
@@ -128,3 +138,21 @@ path_turn g more whole p left rest added next h =
       | true ↦ λ k. (k, new-with_path g p (path_ids rest) now.1.1)
       | false ↦ λ k. (k, new-without (ids_of g) p.id (path_ids rest) now.1.1)
     ] now.0)
+
+-- new identities that are none of some others are new beside these
+pub AreNew-beside : (fewer taken ids : List ℕ) (P : ℕ → Type 0) → ((q : ℕ) → is_among fewer q ≡ false → P q → is_among taken q ≡ false) → AllByRecursion P ids → AreNew fewer ids → AreNew taken ids
+AreNew-beside fewer taken [] P more each h = tt
+AreNew-beside fewer taken (id ∷ ids) P more each h = (
+  more id h.0 each.0,
+  AreNew-beside (id ∷ fewer) (id ∷ taken) ids P
+  (λ q k e. let p = neither (id == q) (is_among fewer q) k in or_not (id == q) (is_among taken q) p.0 (more q p.1 e)) each.1 h.1,
+)
+
+-- the edges are new beside the graph of the nodes, and the paths beside the graph of both
+pub new_edges : (ns : List Node) (es : List Edge) → AreNew (node_ids ns) (edge_ids es) → AreNew (ids_of (nodes_alone ns)) (edge_ids es)
+new_edges ns es = AreNew-fewer (node_ids ns) (ids_of (nodes_alone ns)) (edge_ids es) (λ q h. not_in_graph (nodes_alone ns) q (not_in-fold (λ n. n.id) [] ns q refl h) refl refl)
+
+pub new_paths : (ns : List Node) (es : List Edge) (ps : List Path) → AreNew (node_ids ns ++ edge_ids es) (path_ids ps) → AreNew (ids_of (with_standing (nodes_alone ns) es)) (path_ids ps)
+new_paths ns es ps = AreNew-fewer (node_ids ns ++ edge_ids es) (ids_of (with_standing (nodes_alone ns) es)) (path_ids ps) (λ q h.
+    let parts = not_in_either (node_ids ns) (edge_ids es) q h in
+    not_in_graph (with_standing (nodes_alone ns) es) q (not_in-fold (λ n. n.id) [] ns q refl parts.0) (not_in-fold (λ e. e.id) [] _ q refl (not_in-filter (λ e. e.id) (stands (nodes_alone ns).nodes) es q parts.1)) refl)

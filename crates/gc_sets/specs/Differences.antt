@@ -3,14 +3,10 @@ use Rattle.std.specs.Prelude.{Bool, ◌&&◌, List}
 use Rattle.std.specs.List.{filter, list_all}
 use Rattle.gc_base.specs.declared.walk.Walk.{Walk}
 use Rattle.gc_spec.specs.PropertyGraph.{PropertyGraph, Node, Edge, Path, node_ids, edge_ids, is_among}
-use Rattle.gc_sets.specs.Elements.{others}
+use Rattle.gc_sets.specs.Elements.{others, stands}
 
 -- Take from 1 -3-> 2 -4-> 1, with the path 5 along 3 and the path 6 that stays at 1, the node 2 and the path 6 of another
 -- graph: the node 1 is left, and nothing else, since the edges 3 and 4 have lost an end and the path 5 an edge.
-
--- whether both ends of an edge are among some nodes
-abbrev pub stands : List Node → Edge → Bool
-stands nodes e = is_among (node_ids nodes) e.from && is_among (node_ids nodes) e.to
 
 -- whether all nodes and edges of a walk are among some
 abbrev pub goes_along : List Node → List Edge → Walk → Bool

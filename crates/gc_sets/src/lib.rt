@@ -4,7 +4,9 @@
 
 mod additions;
 mod descriptions;
+mod difference;
 mod lists;
 mod part;
 
 pub use descriptions::{unite_labels, unite_properties};
+pub use difference::minus;

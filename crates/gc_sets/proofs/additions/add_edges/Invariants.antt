@@ -2,7 +2,7 @@ use Rattle.std.proofs.Common.{◌≡◌}
 use Rattle.std.specs.List.{filter}
 use Rattle.gc_spec.specs.PropertyGraph.{ids_of, edge_ids}
 use Rattle.gc_sets.specs.Additions.{AreNew, with_edges}
-use Rattle.gc_sets.specs.Differences.{stands}
+use Rattle.gc_sets.specs.Elements.{stands}
 use Rattle.gc_sets.proofs.additions.add_edges.Given as goal
 
 -- the graph so far with the rest is the graph with all, and the rest are new
