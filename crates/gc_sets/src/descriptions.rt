@@ -24,6 +24,27 @@ pub fn unite_properties(properties: &mut Properties, more: &Properties) -> Resul
     Ok(())
 }
 
+// The labels of both.
+pub(crate) fn united_labels(labels: &LabelSet, more: &LabelSet) -> Result<LabelSet, Memory>
+    ensures { IfOk result (λ united. united ≡ united_labels labels.now more.now) }
+{
+    let mut united = labels.copy()?;
+    unite_labels(&mut united, more)?;
+    Ok(united)
+}
+
+// The properties of both.
+pub(crate) fn united_properties(
+    properties: &Properties,
+    more: &Properties,
+) -> Result<Properties, Memory>
+    ensures { IfOk result (λ united. united ≡ united_properties properties.now more.now) }
+{
+    let mut united = properties.copy()?;
+    unite_properties(&mut united, more)?;
+    Ok(united)
+}
+
 // The values that a name has in some properties, and those of one more.
 fn values_with(properties: &Properties, more: &Property) -> Result<ValueSet, Memory>
     ensures { IfOk result (λ values. values ≡ united_values (unwrap_or (values_of properties.now more.now.name) []) more.now.values) }

@@ -1,11 +1,14 @@
-ghost use Rattle.std.specs.Prelude.{◌≡◌, ◌==◌, ◌<◌, ℕ, List, length, slice_get, Some};
+ghost use Rattle.std.specs.Prelude.{◌≡◌, ◌==◌, ◌<◌, ℕ, List, length, slice_get, Some, IfOk};
 ghost use Rattle.std.specs.List.{find};
 ghost use Rattle.std.specs.Option.{option_copied};
 ghost use Rattle.std.specs.Ordering.{nat_cmp, on};
 ghost use Rattle.gc_base.specs.Ascending.{Ascends};
 ghost use Rattle.gc_spec.specs.PropertyGraph.{PropertyGraph};
+ghost use Rattle.gc_sets.specs.Descriptions.{united_node};
+ghost use Rattle.gc_sets.specs.Unions.{united_edge, united_path};
 
-use gc_base::{Duplicate, Id, Steps};
+use crate::descriptions::{united_labels, united_properties};
+use gc_base::{Duplicate, Id, Memory, Steps};
 use gc_ppg::{EdgeInfo, Graph, NodeInfo, PathInfo};
 use std::sync::ledger::Ledger;
 
@@ -16,6 +19,9 @@ pub(crate) trait Part: Duplicate {
 
     /// Their identities.
     ghost id_of: { Self → ℕ };
+
+    /// One with the labels and values of another beside its own.
+    ghost united: { Self → Self → Self };
 
     fn id(&self) -> Id
         ensures { result ≡ id_of self.now };
@@ -33,12 +39,18 @@ pub(crate) trait Part: Duplicate {
     // The one of an identity, or `None` exactly where it is not there.
     fn found<'a, L: Ledger>(g: &'a Graph, id: Id, steps: &mut Steps<L>) -> Option<&'a Self>
         ensures { option_copied result ≡ find (λ x. id_of x == id) (all g.now) };
+
+    // A copy with the labels and values of another beside its own.
+    fn united_with(&self, other: &Self) -> Result<Self, Memory>
+        ensures { IfOk result (λ both. both ≡ united self.now other.now) };
 }
 
 impl Part for NodeInfo {
     ghost all = { λ g. g.nodes };
 
     ghost id_of = { λ n. n.id };
+
+    ghost united = { united_node };
 
     fn id(&self) -> Id {
         self.id
@@ -55,12 +67,22 @@ impl Part for NodeInfo {
     fn found<'a, L: Ledger>(g: &'a Graph, id: Id, steps: &mut Steps<L>) -> Option<&'a NodeInfo> {
         g.find_node(id, steps)
     }
+
+    fn united_with(&self, other: &NodeInfo) -> Result<NodeInfo, Memory> {
+        Ok(NodeInfo {
+            id: self.id,
+            labels: united_labels(&self.labels, &other.labels)?,
+            properties: united_properties(&self.properties, &other.properties)?,
+        })
+    }
 }
 
 impl Part for EdgeInfo {
     ghost all = { λ g. g.edges };
 
     ghost id_of = { λ e. e.id };
+
+    ghost united = { united_edge };
 
     fn id(&self) -> Id {
         self.id
@@ -77,12 +99,24 @@ impl Part for EdgeInfo {
     fn found<'a, L: Ledger>(g: &'a Graph, id: Id, steps: &mut Steps<L>) -> Option<&'a EdgeInfo> {
         g.find_edge(id, steps)
     }
+
+    fn united_with(&self, other: &EdgeInfo) -> Result<EdgeInfo, Memory> {
+        Ok(EdgeInfo {
+            id: self.id,
+            from: self.from,
+            to: self.to,
+            labels: united_labels(&self.labels, &other.labels)?,
+            properties: united_properties(&self.properties, &other.properties)?,
+        })
+    }
 }
 
 impl Part for PathInfo {
     ghost all = { λ g. g.paths };
 
     ghost id_of = { λ p. p.id };
+
+    ghost united = { united_path };
 
     fn id(&self) -> Id {
         self.id
@@ -98,5 +132,14 @@ impl Part for PathInfo {
 
     fn found<'a, L: Ledger>(g: &'a Graph, id: Id, steps: &mut Steps<L>) -> Option<&'a PathInfo> {
         g.find_path(id, steps)
+    }
+
+    fn united_with(&self, other: &PathInfo) -> Result<PathInfo, Memory> {
+        Ok(PathInfo {
+            id: self.id,
+            walk: self.walk.copy()?,
+            labels: united_labels(&self.labels, &other.labels)?,
+            properties: united_properties(&self.properties, &other.properties)?,
+        })
     }
 }

@@ -1,7 +1,0 @@
-use Rattle.std.proofs.Common.{◌≡◌, ◌++◌, drop}
-use Rattle.gc_sets.specs.Elements.{others}
-use Rattle.gc_sets.proofs.lists.others.Given as goal
-
--- those kept so far with those of the rest are all that are kept
-abbrev pub invariant-loop-i : goal.invariant-loop-i
-invariant-loop-i g l = l.kept.items ++ others g.T.Part.id_of (drop l.i (g.T.Part.all l.a)) (g.T.Part.all l.b) ≡ others g.T.Part.id_of (g.T.Part.all l.a) (g.T.Part.all l.b)
