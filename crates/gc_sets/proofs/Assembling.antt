@@ -13,7 +13,7 @@ use Rattle.gc_sets.proofs.NewIds.{AreNew-beside, not_in_both}
 use Rattle.gc_sets.proofs.Sets.{fold-ascending}
 use Rattle.gc_sets.proofs.Shapes.{AreNodes, AreEdges, ArePaths, not_among}
 
-onto_map : {X Y : Type 0} (P : Y → Type 0) (f : X → Y) (xs : List X) → AllByRecursion (λ x. P (f x)) xs → AllByRecursion P (map f xs)
+pub onto_map : {X Y : Type 0} (P : Y → Type 0) (f : X → Y) (xs : List X) → AllByRecursion (λ x. P (f x)) xs → AllByRecursion P (map f xs)
 onto_map P f [] h = tt
 onto_map P f (x ∷ xs) h = (h.0, onto_map P f xs h.1)
 

@@ -20,7 +20,7 @@ pub none_taken : {X : Type 0} (xs : List X) → AllByRecursion (λ x. false ≡ 
 none_taken [] = tt
 none_taken (x ∷ xs) = (refl, none_taken xs)
 
-others-ascend : {X : Type 0} (key : X → ℕ) (xs ys : List X) → Ascends (on key nat_cmp) xs → Ascends (on key nat_cmp) (others key xs ys)
+pub others-ascend : {X : Type 0} (key : X → ℕ) (xs ys : List X) → Ascends (on key nat_cmp) xs → Ascends (on key nat_cmp) (others key xs ys)
 others-ascend key xs ys up = Ascends-filter (on key nat_cmp) (on_total key nat_cmp_total) _ xs up
 
 filters_agree : {X : Type 0} (p q : X → Bool) (xs : List X) → AllByRecursion (λ x. p x ≡ q x) xs → filter p xs ≡ filter q xs

@@ -1,8 +1,11 @@
 pub mod Assembling
+pub mod Coherent
 pub mod DifferenceLaws
 pub mod Finds
 pub mod NewIds
 pub mod Sets
 pub mod Shapes
+pub mod Together
 pub mod Turns
+pub mod UnionLaws
 pub mod Walks

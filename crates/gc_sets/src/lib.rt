@@ -7,6 +7,8 @@ mod descriptions;
 mod difference;
 mod lists;
 mod part;
+mod union_of;
 
 pub use descriptions::{unite_labels, unite_properties};
 pub use difference::minus;
+pub use union_of::union;
