@@ -1,6 +1,5 @@
 -- What identities stand for in two coherent graphs.
-use Rattle.std.proofs.Common.{◌≡◌, ℕ, Bool, true, false, ◌&&◌, ◌||◌, ◌==◌, List, [], ◌∷◌, Option, Some, None, refl, sym, ap, ◌∙◌, subst}
-use Rattle.std.specs.List.{AllByRecursion}
+use Rattle.std.proofs.Common.{◌≡◌, ℕ, Bool, true, false, ◌&&◌, List, [], ◌∷◌, Option, Some, None, refl, sym, ap, ◌∙◌}
 use Rattle.std.specs.Option.{option_or}
 use Rattle.std.proofs.lemmas.Bool.{and_parts}
 use Rattle.gc_base.specs.Ascending.{Ascends}
@@ -53,7 +52,7 @@ target_of NodeShape = 0
 target_of (EdgeShape from to) = to
 target_of (PathShape walk) = 0
 
-edge_same : (a b c d : ℕ) → EdgeShape a b ≡ EdgeShape c d → (a ≡ c) × (b ≡ d)
+pub edge_same : (a b c d : ℕ) → EdgeShape a b ≡ EdgeShape c d → (a ≡ c) × (b ≡ d)
 edge_same a b c d h = (ap source_of h, ap target_of h)
 
 -- an edge of both has the same ends in both

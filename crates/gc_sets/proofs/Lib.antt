@@ -1,7 +1,9 @@
 pub mod Assembling
 pub mod Coherent
+pub mod CommonParts
 pub mod DifferenceLaws
 pub mod Finds
+pub mod IntersectionLaws
 pub mod NewIds
 pub mod Sets
 pub mod Shapes

@@ -29,7 +29,7 @@ AreNew-fewer taken fewer [] less h = tt
 AreNew-fewer taken fewer (id ∷ ids) less h = (
   less id h.0,
   AreNew-fewer (id ∷ taken) (id ∷ fewer) ids
-  (λ q k. let p = neither (id == q) (is_among taken q) k in or_not (id == q) (is_among fewer q) p.0 (less q p.1)) h.1,
+      (λ q k. let p = neither (id == q) (is_among taken q) k in or_not (id == q) (is_among fewer q) p.0 (less q p.1)) h.1,
 )
 
 module _ {X : Type 0} (key : X → ℕ) where
@@ -145,7 +145,7 @@ AreNew-beside fewer taken [] P more each h = tt
 AreNew-beside fewer taken (id ∷ ids) P more each h = (
   more id h.0 each.0,
   AreNew-beside (id ∷ fewer) (id ∷ taken) ids P
-  (λ q k e. let p = neither (id == q) (is_among fewer q) k in or_not (id == q) (is_among taken q) p.0 (more q p.1 e)) each.1 h.1,
+      (λ q k e. let p = neither (id == q) (is_among fewer q) k in or_not (id == q) (is_among taken q) p.0 (more q p.1 e)) each.1 h.1,
 )
 
 -- the edges are new beside the graph of the nodes, and the paths beside the graph of both

@@ -19,7 +19,7 @@ module _ {X : Type 0} (cmp : X → X → Ordering) where
   in_middle x [] n more h = h.0
   in_middle x (y ∷ xs) n more h = in_middle x xs n more h.1
 
-  before : (xs : List X) (n : X) (more : List X) → Ascends cmp (xs ++ n ∷ more) → AllByRecursion (λ y. cmp y n ≡ Less) xs
+  pub before : (xs : List X) (n : X) (more : List X) → Ascends cmp (xs ++ n ∷ more) → AllByRecursion (λ y. cmp y n ≡ Less) xs
   before [] n more h = tt
   before (x ∷ xs) n more h = (in_middle x xs n more h.0, before xs n more h.1)
 

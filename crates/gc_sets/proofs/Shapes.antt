@@ -75,7 +75,6 @@ module _ (shape : ℕ → Option ElementShape) where
   abbrev pub ArePaths : List Path → Type 0
   ArePaths ps = AllByRecursion (λ p. shape p.id ≡ Some (PathShape p.walk)) ps
 
-
   injective : {X : Type 0} (x y : X) → Some x ≡ Some y → x ≡ y
   injective x y e = cc e
 

@@ -1,7 +1,7 @@
 -- What is found among the elements of either graph.
-use Rattle.std.proofs.Common.{◌≡◌, ℕ, Bool, true, false, cond, not, ◌||◌, ◌==◌, List, [], ◌∷◌, ◌++◌, map, fold, Option, Some, None, is_some, refl, sym, ap, ◌∙◌, subst}
+use Rattle.std.proofs.Common.{◌≡◌, ℕ, true, false, cond, not, ◌==◌, List, [], ◌∷◌, ◌++◌, map, fold, Option, Some, None, is_some, refl, sym, ap, ◌∙◌}
 use Rattle.std.specs.Cmp.{nat_cmp_total, on_total, nat_eq_equiv}
-use Rattle.std.specs.List.{AllByRecursion, filter, find}
+use Rattle.std.specs.List.{AllByRecursion}
 use Rattle.std.specs.Option.{option_or, option_map}
 use Rattle.std.specs.Ordering.{nat_cmp, on}
 use Rattle.std.proofs.lemmas.Bool.{eqb-true}
@@ -31,6 +31,7 @@ AreNew-append taken (x ∷ xs) ys a b c = (a.0, AreNew-append (x ∷ taken) xs y
     rest : (ys : List ℕ) → AllByRecursion (λ y. is_among (x ∷ xs) y ≡ false) ys → AllByRecursion (λ y. is_among xs y ≡ false) ys
     rest [] c = tt
     rest (y ∷ ys) c = ((neither (x == y) (is_among xs y) c.0).1, rest ys c.1)
+
     first : (ys taken : List ℕ) → AreNew taken ys → AllByRecursion (λ y. is_among (x ∷ xs) y ≡ false) ys → AreNew (x ∷ taken) ys
     first [] taken b c = tt
     first (y ∷ ys) taken b c = (

@@ -1,6 +1,5 @@
 -- What is built for a union is the union.
-use Rattle.std.proofs.Common.{◌≡◌, ℕ, Bool, true, false, cond, not, ◌&&◌, List, [], ◌∷◌, ◌++◌, map, fold, Option, Some, None, is_some, refl, sym, ap, ◌∙◌, subst}
-use Rattle.std.specs.Cmp.{nat_cmp_total, on_total}
+use Rattle.std.proofs.Common.{◌≡◌, ℕ, Bool, true, false, cond, not, List, [], ◌∷◌, ◌++◌, map, fold, Option, Some, None, is_some, refl, sym, ap, ◌∙◌, subst}
 use Rattle.std.specs.List.{AllByRecursion, filter}
 use Rattle.std.specs.Ordering.{nat_cmp, on}
 use Rattle.std.proofs.lemmas.Bool.{and_parts}
@@ -8,8 +7,8 @@ use Rattle.std.proofs.lemmas.List.{map-append}
 use Rattle.gc_base.specs.Ascending.{Ascends, with_item}
 use Rattle.gc_base.specs.declared.walk.Walk.{Walk}
 use Rattle.gc_base.proofs.Search.{AllByRecursion-weaker}
-use Rattle.gc_base.proofs.SetLaws.{Ascends-filter, AllByRecursion-filter, AllByRecursion-append, filter-passes}
-use Rattle.gc_spec.specs.Coherence.{ElementShape, EdgeShape, AreCoherent}
+use Rattle.gc_base.proofs.SetLaws.{AllByRecursion-filter, AllByRecursion-append, filter-passes}
+use Rattle.gc_spec.specs.Coherence.{AreCoherent}
 use Rattle.gc_spec.specs.PropertyGraph.{PropertyGraph, Node, Edge, Path, IsGraph, IsEdge, IsPath, node_at, edge_at, path_at, node_ids, is_among, is_walk, are_steps_from, node_order, edge_order, path_order}
 use Rattle.gc_ppg.specs.Built.{has_ends}
 use Rattle.gc_sets.specs.Additions.{AreNew, ArePartsOf, assembled}
@@ -20,7 +19,7 @@ use Rattle.gc_sets.proofs.Assembling.{onto_map, parts_by_shape}
 use Rattle.gc_sets.proofs.Coherent.{both_true, either_shape, first_shaped, joins, same_ends, second_shaped, steps_along}
 use Rattle.gc_sets.proofs.DifferenceLaws.{none_taken, others-ascend}
 use Rattle.gc_sets.proofs.Finds.{found}
-use Rattle.gc_sets.proofs.Shapes.{AreEdges, new_ascending}
+use Rattle.gc_sets.proofs.Shapes.{new_ascending}
 use Rattle.gc_sets.proofs.Together.{AreNew-append, Ascends-fold, found_folded, found_together, keys-united}
 use Rattle.gc_sets.proofs.Turns.{found-is_among}
 

@@ -1,5 +1,6 @@
 ghost use Rattle.std.specs.Prelude.{◌≡◌, ◌∷◌, ◌++◌, ◌==◌, [], IfOk, OnOk};
 ghost use Rattle.gc_sets.specs.Elements.{others};
+ghost use Rattle.gc_sets.specs.Intersections.{in_common, shared_with};
 ghost use Rattle.gc_sets.specs.Unions.{beside, together, united};
 ghost use Rattle.std.specs.List.{find};
 
@@ -92,4 +93,37 @@ fn beside<T: Part, L: Ledger>(element: &T, b: &Graph, steps: &mut Steps<L>) -> R
         Some(other) => element.united_with(other),
         None => element.copy(),
     }
+}
+
+// The elements of the first graph that the second has too, each with what is common.
+pub(crate) fn in_common<T: Part + Drop, L: Ledger>(
+    alloc: Global,
+    a: &Graph,
+    b: &Graph,
+    steps: &mut Steps<L>,
+) -> Result<Vec<T>, Memory>
+    ensures { IfOk result (λ kept. kept.items ≡ in_common T.common T.id_of (T.all a.now) (T.all b.now)) }
+{
+    let mut kept = Vec::new(alloc);
+    for i in 0..T::count(a) {
+        push_common(alloc, &mut kept, T::at(a, i, steps), b, steps)?;
+    }
+    Ok(kept)
+}
+
+// Adds what is common to an element and the one of its identity in a graph, if there is one.
+fn push_common<T: Part + Drop, L: Ledger>(
+    alloc: Global,
+    kept: &mut Vec<T>,
+    element: &T,
+    b: &Graph,
+    steps: &mut Steps<L>,
+) -> Result<(), Memory>
+    ensures { OnOk result (kept.new.items ≡ kept.old.items
+        ++ shared_with T.common element.now (find (λ y. T.id_of y == T.id_of element.now) (T.all b.now))) }
+{
+    if let Some(other) = T::found(b, element.id(), steps) {
+        kept.push(element.common_with(alloc, other)?)?;
+    }
+    Ok(())
 }

@@ -5,11 +5,14 @@ ghost use Rattle.std.specs.Ordering.{nat_cmp, on};
 ghost use Rattle.gc_base.specs.Ascending.{Ascends};
 ghost use Rattle.gc_spec.specs.PropertyGraph.{PropertyGraph};
 ghost use Rattle.gc_sets.specs.Descriptions.{united_node};
+ghost use Rattle.gc_sets.specs.Intersections.{common_node, common_edge, common_path};
 ghost use Rattle.gc_sets.specs.Unions.{united_edge, united_path};
 
+use crate::common::{common_items, common_properties};
 use crate::descriptions::{united_labels, united_properties};
 use gc_base::{Duplicate, Id, Memory, Steps};
 use gc_ppg::{EdgeInfo, Graph, NodeInfo, PathInfo};
+use std::alloc::Global;
 use std::sync::ledger::Ledger;
 
 /// What a graph is made of: nodes, edges or stored paths.
@@ -22,6 +25,9 @@ pub(crate) trait Part: Duplicate {
 
     /// One with the labels and values of another beside its own.
     ghost united: { Self → Self → Self };
+
+    /// One with the labels and values that another has too.
+    ghost common: { Self → Self → Self };
 
     fn id(&self) -> Id
         ensures { result ≡ id_of self.now };
@@ -43,6 +49,10 @@ pub(crate) trait Part: Duplicate {
     // A copy with the labels and values of another beside its own.
     fn united_with(&self, other: &Self) -> Result<Self, Memory>
         ensures { IfOk result (λ both. both ≡ united self.now other.now) };
+
+    // A copy with the labels and values that another has too.
+    fn common_with(&self, alloc: Global, other: &Self) -> Result<Self, Memory>
+        ensures { IfOk result (λ both. both ≡ common self.now other.now) };
 }
 
 impl Part for NodeInfo {
@@ -51,6 +61,8 @@ impl Part for NodeInfo {
     ghost id_of = { λ n. n.id };
 
     ghost united = { united_node };
+
+    ghost common = { common_node };
 
     fn id(&self) -> Id {
         self.id
@@ -75,6 +87,14 @@ impl Part for NodeInfo {
             properties: united_properties(&self.properties, &other.properties)?,
         })
     }
+
+    fn common_with(&self, alloc: Global, other: &NodeInfo) -> Result<NodeInfo, Memory> {
+        Ok(NodeInfo {
+            id: self.id,
+            labels: common_items(alloc, &self.labels, &other.labels)?,
+            properties: common_properties(alloc, &self.properties, &other.properties)?,
+        })
+    }
 }
 
 impl Part for EdgeInfo {
@@ -83,6 +103,8 @@ impl Part for EdgeInfo {
     ghost id_of = { λ e. e.id };
 
     ghost united = { united_edge };
+
+    ghost common = { common_edge };
 
     fn id(&self) -> Id {
         self.id
@@ -109,6 +131,16 @@ impl Part for EdgeInfo {
             properties: united_properties(&self.properties, &other.properties)?,
         })
     }
+
+    fn common_with(&self, alloc: Global, other: &EdgeInfo) -> Result<EdgeInfo, Memory> {
+        Ok(EdgeInfo {
+            id: self.id,
+            from: self.from,
+            to: self.to,
+            labels: common_items(alloc, &self.labels, &other.labels)?,
+            properties: common_properties(alloc, &self.properties, &other.properties)?,
+        })
+    }
 }
 
 impl Part for PathInfo {
@@ -117,6 +149,8 @@ impl Part for PathInfo {
     ghost id_of = { λ p. p.id };
 
     ghost united = { united_path };
+
+    ghost common = { common_path };
 
     fn id(&self) -> Id {
         self.id
@@ -140,6 +174,15 @@ impl Part for PathInfo {
             walk: self.walk.copy()?,
             labels: united_labels(&self.labels, &other.labels)?,
             properties: united_properties(&self.properties, &other.properties)?,
+        })
+    }
+
+    fn common_with(&self, alloc: Global, other: &PathInfo) -> Result<PathInfo, Memory> {
+        Ok(PathInfo {
+            id: self.id,
+            walk: self.walk.copy()?,
+            labels: common_items(alloc, &self.labels, &other.labels)?,
+            properties: common_properties(alloc, &self.properties, &other.properties)?,
         })
     }
 }

@@ -1,4 +1,4 @@
-use Rattle.std.proofs.Common.{◌≡◌, sym, ap, ◌∙◌}
+use Rattle.std.proofs.Common.{◌≡◌, ◌∙◌}
 use Rattle.gc_sets.specs.Additions.{assembled}
 use Rattle.gc_sets.proofs.UnionLaws.{union_parts, union_made}
 use Rattle.gc_sets.proofs.union_of.union.Goals as goal
