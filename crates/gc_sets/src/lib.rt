@@ -2,6 +2,16 @@
 //! of no query.
 #![tactic(auto)]
 
+mod additions;
+mod common;
 mod descriptions;
+mod difference;
+mod intersection;
+mod lists;
+mod part;
+mod union_of;
 
 pub use descriptions::{unite_labels, unite_properties};
+pub use difference::minus;
+pub use intersection::intersect;
+pub use union_of::union;

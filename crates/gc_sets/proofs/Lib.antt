@@ -1,0 +1,13 @@
+pub mod Assembling
+pub mod Coherent
+pub mod CommonParts
+pub mod DifferenceLaws
+pub mod Finds
+pub mod IntersectionLaws
+pub mod NewIds
+pub mod Sets
+pub mod Shapes
+pub mod Together
+pub mod Turns
+pub mod UnionLaws
+pub mod Walks
