@@ -1,77 +1,109 @@
 -- How a run ends, once its graphs are read.
-use Rattle.std.proofs.Common.{◌≡◌, ℕ, ◌≤◌, List, [], ◌∷◌, length, Option, None, Some, Result, Ok, Err, ap, ◌∙◌, subst, sym, refl, arith, inl, inr, slice_get}
-use Rattle.std.proofs.lemmas.List.{append-nil}
+use Rattle.std.proofs.Common.{◌≡◌, ℕ, ◌≤◌, List, [], ◌∷◌, length, Option, None, Some, Result, Ok, Err, ap, ◌∙◌, subst, sym, refl, arith, inl, inr}
 use Rattle.std.specs.Result.{IsErr, IsErrAnd}
 use Rattle.std.specs.Prelude.{IfSome, IsOk, IsSomeAnd, ◌⊎◌}
-use Rattle.std.specs.Io.KnownBytes.{append_known}
 use Rattle.gc_base.specs.Faults.{Rose}
 use Rattle.gc_base.specs.Files.{Files}
+use Rattle.gc_ast.specs.Trees.{Tree, AStatement}
 use Rattle.gc_spec.specs.PropertyGraph.{PropertyGraph}
-use Rattle.gcore.specs.Outcomes.{outcome, text_of, then_due, graphs_due, graph_names, label_due, first_printed, printed}
-use Rattle.gcore.specs.Endings.{Answers, Call, Change, StopsFor, GainsPrefix, WritesText}
+use Rattle.gc_query.specs.NodeQueries.{NodeQuery, node_query}
+use Rattle.gcore.specs.Outcomes.{IsTextDue, IsTextOf, Request, built, file_due, graph_names, graphs_due, outcome, query_due, query_limit, request, statements_due, then_due}
+use Rattle.gcore.specs.Endings.{Answers, Call, Change, GainsDuePrefix, GainsNothing, HoldsAnswer, HoldsText, IsDue, StopsFor, WritesAnswer}
 use Rattle.gcore.specs.GraphSteps.{StopsReadingGraphs}
+use Rattle.gcore.specs.QueryFiles.{statements_of}
 use Rattle.gcore.specs.Steps.{StopsReadingQuery}
 use Rattle.gcore.specs.declared.command.Command.TheVariants.{Run}
 use Rattle.gcore.specs.declared.pair.Pair.{Pair}
 use Rattle.gcore.specs.declared.stop.Stop.{Stop}
 use Rattle.gcore.specs.declared.stop.Stop.TheVariants.{Usage, Unread, TooLarge, Refused, Text, Sorts, NotBuilt, Unwritten, OutOfMemory}
 
-first_is : (gs : List PropertyGraph) (g : PropertyGraph) (label : List ℕ) → slice_get gs 0 ≡ Some g → first_printed gs label ≡ Ok (printed g label)
-first_is [] g label h = absurd (cc)
-first_is (f ∷ gs) g label h = let same : f ≡ g = cc in ap (λ x. Ok (printed x label)) same
-
-nothing_gained : (taken : Option (List ℕ)) → taken ≡ append_known taken []
-nothing_gained None = refl
-nothing_gained (Some xs) = ap (λ ys. Some ys) (sym (append-nil xs))
-
 -- a sink that was not called
 abbrev pub still : ℕ → Option (List ℕ) → Change
 still faults taken = record { faults_before = faults; faults_after = faults; taken_before = taken; taken_after = taken }
 
-module _ (query : List ℕ) (pairs : List Pair) where
-  -- the text that is due, once the graphs and the label are read
-  due_text : (files : Files) (gs : List PropertyGraph) (g : PropertyGraph) (label : List ℕ) → graphs_due files [] pairs ≡ Ok gs → slice_get gs 0 ≡ Some g → label_due (graph_names pairs) files query ≡ Ok label
-      → outcome (Some (Run query pairs)) files ≡ Ok (printed g label)
-  due_text files gs g label a h b =
-      ap (λ d. then_due d (λ hs. then_due (label_due (graph_names pairs) files query) (first_printed hs))) a ∙ (ap (λ d. then_due d (first_printed gs)) b ∙ first_is gs g label h)
+-- one thing after another, and then a third
+then_then : {A B C : Type 0} (d : Result A Stop) (f : A → Result B Stop) (g : B → Result C Stop) → then_due (then_due d f) g ≡ then_due d (λ x. then_due (f x) g)
+then_then (Ok x) f g = refl
+then_then (Err stop) f g = refl
 
-  pub room_holds : (told : Option Files) (gs : List PropertyGraph) (g : PropertyGraph) (label : List ℕ) (x : ℕ) → IsSomeAnd told (λ files. length (text_of (outcome (Some (Run query pairs)) files)) ≤ x)
-      → IfSome told (λ files. graphs_due files [] pairs ≡ Ok gs) → slice_get gs 0 ≡ Some g → IfSome told (λ files. label_due (graph_names pairs) files query ≡ Ok label) → length (printed g label) ≤ x
-  room_holds None gs g label x h a first b = absurd h
-  room_holds (Some files) gs g label x h a first b = subst (λ o. length (text_of o) ≤ x) (due_text files gs g label a first b) h
+-- what statements ask for
+abbrev asked_of : List (Tree AStatement) → Result NodeQuery Stop
+asked_of statements = built (node_query statements)
+
+module _ (query : List ℕ) (pairs : List Pair) where
+  abbrev names : List (List ℕ)
+  names = graph_names pairs
+
+  -- what is asked, by the statements that are due
+  asked_by : (files : Files) (due : Result (List (Tree AStatement)) Stop) → statements_due names files query ≡ due → query_due names files query ≡ then_due due asked_of
+  asked_by files due h = sym (then_then (file_due files query query_limit) (statements_of names) asked_of) ∙ ap (λ d. then_due d asked_of) h
+
+  -- what is due, once the graphs and the statements are read
+  due_of : (files : Files) (gs : List PropertyGraph) (due : Result (List (Tree AStatement)) Stop) → graphs_due files [] pairs ≡ Ok gs → statements_due names files query ≡ due
+      → outcome (Some (Run query pairs)) files ≡ then_due (then_due due asked_of) (request names gs)
+  due_of files gs due a b =
+      ap (λ d. then_due d (λ hs. then_due (query_due names files query) (request names hs))) a ∙ ap (λ d. then_due d (request names gs)) (asked_by files due b)
+
+  due_asked : (files : Files) (gs : List PropertyGraph) (statements : List (Tree AStatement)) (asked : Option NodeQuery) → graphs_due files [] pairs ≡ Ok gs → statements_due names files query ≡ Ok statements → node_query statements ≡ asked
+      → outcome (Some (Run query pairs)) files ≡ then_due (built asked) (request names gs)
+  due_asked files gs statements asked a b same = due_of files gs (Ok statements) a b ∙ ap (λ o. then_due (built o) (request names gs)) same
+
+  -- a text that answers what is asked is due
+  text_due : (files : Files) (gs : List PropertyGraph) (statements : List (Tree AStatement)) (q : NodeQuery) (text : List ℕ) → graphs_due files [] pairs ≡ Ok gs → statements_due names files query ≡ Ok statements → node_query statements ≡ Some q
+      → IsTextOf (record { names = names; graphs = gs; query = q }) text → IsTextDue (outcome (Some (Run query pairs)) files) text
+  text_due files gs statements q text a b same is = subst (λ o. IsTextDue o text) (sym (due_asked files gs statements (Some q) a b same)) is
+
+  -- a told room of `out` holds each text that answers what is asked
+  pub room_holds : (told : Option Files) (gs : List PropertyGraph) (statements : List (Tree AStatement)) (room : Option ℕ) → HoldsText room told (Some (Run query pairs))
+      → IfSome told (λ files. graphs_due files [] pairs ≡ Ok gs) → IfSome told (λ files. statements_due names files query ≡ Ok statements) → HoldsAnswer room names gs (node_query statements)
+  room_holds told gs statements room h a b = by (node_query statements) refl
+    where
+      within : (o : Option Files) (q : NodeQuery) (x : ℕ) (text : List ℕ) → IsSomeAnd o (λ files. (t : List ℕ) → IsTextDue (outcome (Some (Run query pairs)) files) t → length t ≤ x)
+          → IfSome o (λ files. graphs_due files [] pairs ≡ Ok gs) → IfSome o (λ files. statements_due names files query ≡ Ok statements) → node_query statements ≡ Some q
+          → IsTextOf (record { names = names; graphs = gs; query = q }) text → length text ≤ x
+      within None q x text holds c d same is = absurd holds
+      within (Some files) q x text holds c d same is = holds text (text_due files gs statements q text c d same is)
+      by : (asked : Option NodeQuery) → node_query statements ≡ asked → HoldsAnswer room names gs asked
+      by None same = tt
+      by (Some q) same = λ x here text is. within told q x text (h x here) a b same is
 
   -- the stop that is due, once the graphs are read
-  due_stop : (files : Files) (gs : List PropertyGraph) (stop : Stop) → graphs_due files [] pairs ≡ Ok gs → label_due (graph_names pairs) files query ≡ Err stop → outcome (Some (Run query pairs)) files ≡ Err stop
-  due_stop files gs stop a b = ap (λ d. then_due d (λ hs. then_due (label_due (graph_names pairs) files query) (first_printed hs))) a ∙ ap (λ d. then_due d (first_printed gs)) b
+  due_stop : (files : Files) (gs : List PropertyGraph) (stop : Stop) → graphs_due files [] pairs ≡ Ok gs → statements_due names files query ≡ Err stop → outcome (Some (Run query pairs)) files ≡ Err stop
+  due_stop files gs stop a b = due_of files gs (Err stop) a b
 
-  due_or_fault : (files : Files) (gs : List PropertyGraph) (before middle after : ℕ) (stop : Stop) → graphs_due files [] pairs ≡ Ok gs → before ≤ middle → (label_due (graph_names pairs) files query ≡ Err stop) ⊎ Rose middle after
+  due_or_fault : (files : Files) (gs : List PropertyGraph) (before middle after : ℕ) (stop : Stop) → graphs_due files [] pairs ≡ Ok gs → before ≤ middle → (statements_due names files query ≡ Err stop) ⊎ Rose middle after
       → (outcome (Some (Run query pairs)) files ≡ Err stop) ⊎ Rose before after
   due_or_fault files gs before middle after stop a le (inl due) = inl (due_stop files gs stop a due)
   due_or_fault files gs before middle after stop a le (inr rose) = inr (omega arith)
 
+  -- where `out` gained nothing, it gained the beginning of what is due
+  pub nothing_is_prefix : (told : Option Files) (before after : ℕ) (out : Change) → GainsNothing out
+      → GainsDuePrefix (record { command = Some (Run query pairs); files = told; faults_before = before; faults_after = after; out = out })
+  nothing_is_prefix None before after out h = tt
+  nothing_is_prefix (Some files) before after out h = inl h
+
   -- where the query file stops the call, the call stops for that cause
-  pub label_stops : (told : Option Files) (gs : List PropertyGraph) (before middle after faults : ℕ) (taken : Option (List ℕ)) (stop : Stop) → IfSome told (λ files. graphs_due files [] pairs ≡ Ok gs) → before ≤ middle
-      → StopsReadingQuery (record { files = told; faults_before = middle; faults_after = after }) query (λ files. label_due (graph_names pairs) files query) stop
+  pub query_stops : (told : Option Files) (gs : List PropertyGraph) (before middle after faults : ℕ) (taken : Option (List ℕ)) (stop : Stop) → IfSome told (λ files. graphs_due files [] pairs ≡ Ok gs) → before ≤ middle
+      → StopsReadingQuery (record { files = told; faults_before = middle; faults_after = after }) query (λ files. statements_due names files query) stop
       → StopsFor (record { command = Some (Run query pairs); files = told; faults_before = before; faults_after = after; out = still faults taken }) stop
-  label_stops told gs before middle after faults taken Usage graphs le h = absurd h
-  label_stops None gs before middle after faults taken (Unread file) graphs le h = (inr (h.0, tt), omega arith, refl)
-  label_stops (Some files) gs before middle after faults taken (Unread file) graphs le h =
+  query_stops told gs before middle after faults taken Usage graphs le h = absurd h
+  query_stops None gs before middle after faults taken (Unread file) graphs le h = (inr (h.0, tt), omega arith, refl)
+  query_stops (Some files) gs before middle after faults taken (Unread file) graphs le h =
       (inr (h.0, subst IsOk (sym graphs) refl), due_or_fault files gs before middle after (Unread file) graphs le h.1, refl)
-  label_stops None gs before middle after faults taken (TooLarge file) graphs le h = (inr (h.0, tt), tt, refl)
-  label_stops (Some files) gs before middle after faults taken (TooLarge file) graphs le h = (inr (h.0, subst IsOk (sym graphs) refl), due_stop files gs (TooLarge file) graphs h.1, refl)
-  label_stops told gs before middle after faults taken (Refused refusal file) graphs le h = absurd h
-  label_stops None gs before middle after faults taken (Text refusal) graphs le h = ((refl, tt), tt, refl)
-  label_stops (Some files) gs before middle after faults taken (Text refusal) graphs le h = ((refl, subst IsOk (sym graphs) refl), due_stop files gs (Text refusal) graphs h, refl)
-  label_stops None gs before middle after faults taken (Sorts rule place) graphs le h = ((refl, tt), tt, refl)
-  label_stops (Some files) gs before middle after faults taken (Sorts rule place) graphs le h = ((refl, subst IsOk (sym graphs) refl), due_stop files gs (Sorts rule place) graphs h, refl)
-  label_stops None gs before middle after faults taken NotBuilt graphs le h = (refl, tt, refl)
-  label_stops (Some files) gs before middle after faults taken NotBuilt graphs le h = (refl, due_stop files gs NotBuilt graphs h, refl)
-  label_stops told gs before middle after faults taken Unwritten graphs le h = absurd h
-  label_stops None gs before middle after faults taken OutOfMemory graphs le h = tt
-  label_stops (Some files) gs before middle after faults taken OutOfMemory graphs le h = ([], text_of (outcome (Some (Run query pairs)) files), refl, nothing_gained taken)
+  query_stops None gs before middle after faults taken (TooLarge file) graphs le h = (inr (h.0, tt), tt, refl)
+  query_stops (Some files) gs before middle after faults taken (TooLarge file) graphs le h = (inr (h.0, subst IsOk (sym graphs) refl), due_stop files gs (TooLarge file) graphs h.1, refl)
+  query_stops told gs before middle after faults taken (Refused refusal file) graphs le h = absurd h
+  query_stops None gs before middle after faults taken (Text refusal) graphs le h = ((refl, tt), tt, refl)
+  query_stops (Some files) gs before middle after faults taken (Text refusal) graphs le h = ((refl, subst IsOk (sym graphs) refl), due_stop files gs (Text refusal) graphs h, refl)
+  query_stops None gs before middle after faults taken (Sorts rule place) graphs le h = ((refl, tt), tt, refl)
+  query_stops (Some files) gs before middle after faults taken (Sorts rule place) graphs le h = ((refl, subst IsOk (sym graphs) refl), due_stop files gs (Sorts rule place) graphs h, refl)
+  query_stops None gs before middle after faults taken NotBuilt graphs le h = (refl, tt, refl)
+  query_stops (Some files) gs before middle after faults taken NotBuilt graphs le h = (refl, due_stop files gs NotBuilt graphs h, refl)
+  query_stops told gs before middle after faults taken Unwritten graphs le h = absurd h
+  query_stops told gs before middle after faults taken OutOfMemory graphs le h = nothing_is_prefix told before after (still faults taken) refl
 
   first_stop : (files : Files) (stop : Stop) → graphs_due files [] pairs ≡ Err stop → outcome (Some (Run query pairs)) files ≡ Err stop
-  first_stop files stop a = ap (λ d. then_due d (λ hs. then_due (label_due (graph_names pairs) files query) (first_printed hs))) a
+  first_stop files stop a = ap (λ d. then_due d (λ hs. then_due (query_due names files query) (request names hs))) a
 
   first_or_fault : (files : Files) (before after : ℕ) (stop : Stop) → (graphs_due files [] pairs ≡ Err stop) ⊎ Rose before after → (outcome (Some (Run query pairs)) files ≡ Err stop) ⊎ Rose before after
   first_or_fault files before after stop (inl due) = inl (first_stop files stop due)
@@ -92,26 +124,54 @@ module _ (query : List ℕ) (pairs : List Pair) where
   graph_stops None before after faults taken NotBuilt h = (refl, tt, refl)
   graph_stops (Some files) before after faults taken NotBuilt h = (refl, first_stop files NotBuilt h, refl)
   graph_stops told before after faults taken Unwritten h = absurd h
-  graph_stops None before after faults taken OutOfMemory h = tt
-  graph_stops (Some files) before after faults taken OutOfMemory h = ([], text_of (outcome (Some (Run query pairs)) files), refl, nothing_gained taken)
+  graph_stops told before after faults taken OutOfMemory h = nothing_is_prefix told before after (still faults taken) refl
 
-  -- the answer that was written
-  pub written : (told : Option Files) (gs : List PropertyGraph) (g : PropertyGraph) (label : List ℕ) (before after : ℕ) (out : Change) (result : Result (Unit {0}) Stop)
-      → IfSome told (λ files. graphs_due files [] pairs ≡ Ok gs) → slice_get gs 0 ≡ Some g → IfSome told (λ files. label_due (graph_names pairs) files query ≡ Ok label) → WritesText out (printed g label) result
-      → Answers (record { command = Some (Run query pairs); files = told; faults_before = before; faults_after = after; out = out }) result
-  written None gs g label before after out (Ok done) a first b w = (refl, tt)
-  written (Some files) gs g label before after out (Ok done) a first b w = (refl, (printed g label, due_text files gs g label a first b, w))
-  written None gs g label before after out (Err Unwritten) a first b w = (refl, w.0, tt)
-  written (Some files) gs g label before after out (Err Unwritten) a first b w = (refl, w.0, subst (λ o. GainsPrefix out (text_of o)) (sym (due_text files gs g label a first b)) w.1)
-  written None gs g label before after out (Err OutOfMemory) a first b w = tt
-  written (Some files) gs g label before after out (Err OutOfMemory) a first b w = ([], text_of (outcome (Some (Run query pairs)) files), refl, w ∙ nothing_gained out.taken_before)
-  written told gs g label before after out (Err Usage) a first b w = absurd w
-  written told gs g label before after out (Err (Unread file)) a first b w = absurd w
-  written told gs g label before after out (Err (TooLarge file)) a first b w = absurd w
-  written told gs g label before after out (Err (Refused refusal file)) a first b w = absurd w
-  written told gs g label before after out (Err (Text refusal)) a first b w = absurd w
-  written told gs g label before after out (Err (Sorts rule place)) a first b w = absurd w
-  written told gs g label before after out (Err NotBuilt) a first b w = absurd w
+  -- a call over graphs and statements that were read
+  abbrev call_of : Option Files → ℕ → ℕ → Change → Call
+  call_of told before after out = record { command = Some (Run query pairs); files = told; faults_before = before; faults_after = after; out = out }
+
+  -- a query that is not built
+  unbuilt : (told : Option Files) (gs : List PropertyGraph) (statements : List (Tree AStatement)) (before after : ℕ) (out : Change) (result : Result (Unit {0}) Stop)
+      → IfSome told (λ files. graphs_due files [] pairs ≡ Ok gs) → IfSome told (λ files. statements_due names files query ≡ Ok statements) → node_query statements ≡ None → WritesAnswer names gs None out result
+      → Answers (call_of told before after out) result
+  unbuilt None gs statements before after out (Err NotBuilt) a b same w = (refl, tt, w)
+  unbuilt (Some files) gs statements before after out (Err NotBuilt) a b same w = (refl, due_asked files gs statements None a b same, w)
+  unbuilt told gs statements before after out (Err OutOfMemory) a b same w = nothing_is_prefix told before after out w
+  unbuilt told gs statements before after out (Ok done) a b same w = absurd w
+  unbuilt told gs statements before after out (Err Unwritten) a b same w = absurd w
+  unbuilt told gs statements before after out (Err Usage) a b same w = absurd w
+  unbuilt told gs statements before after out (Err (Unread file)) a b same w = absurd w
+  unbuilt told gs statements before after out (Err (TooLarge file)) a b same w = absurd w
+  unbuilt told gs statements before after out (Err (Refused refusal file)) a b same w = absurd w
+  unbuilt told gs statements before after out (Err (Text refusal)) a b same w = absurd w
+  unbuilt told gs statements before after out (Err (Sorts rule place)) a b same w = absurd w
+
+  -- a query that was answered
+  answered : (told : Option Files) (gs : List PropertyGraph) (statements : List (Tree AStatement)) (q : NodeQuery) (before after : ℕ) (out : Change) (result : Result (Unit {0}) Stop)
+      → IfSome told (λ files. graphs_due files [] pairs ≡ Ok gs) → IfSome told (λ files. statements_due names files query ≡ Ok statements) → node_query statements ≡ Some q → WritesAnswer names gs (Some q) out result
+      → Answers (call_of told before after out) result
+  answered None gs statements q before after out (Ok done) a b same w = (refl, tt)
+  answered (Some files) gs statements q before after out (Ok done) a b same w = (refl, (w.0, text_due files gs statements q w.0 a b same w.1, w.2))
+  answered None gs statements q before after out (Err Unwritten) a b same w = (refl, w.2.0, tt)
+  answered (Some files) gs statements q before after out (Err Unwritten) a b same w = (refl, w.2.0, inr (w.0, text_due files gs statements q w.0 a b same w.1, w.2.1))
+  answered told gs statements q before after out (Err OutOfMemory) a b same w = nothing_is_prefix told before after out w
+  answered told gs statements q before after out (Err Usage) a b same w = absurd w.2
+  answered told gs statements q before after out (Err (Unread file)) a b same w = absurd w.2
+  answered told gs statements q before after out (Err (TooLarge file)) a b same w = absurd w.2
+  answered told gs statements q before after out (Err (Refused refusal file)) a b same w = absurd w.2
+  answered told gs statements q before after out (Err (Text refusal)) a b same w = absurd w.2
+  answered told gs statements q before after out (Err (Sorts rule place)) a b same w = absurd w.2
+  answered told gs statements q before after out (Err NotBuilt) a b same w = absurd w.2
+
+  -- what a call does that has read its graphs and its statements
+  pub written : (told : Option Files) (gs : List PropertyGraph) (statements : List (Tree AStatement)) (before after : ℕ) (out : Change) (result : Result (Unit {0}) Stop)
+      → IfSome told (λ files. graphs_due files [] pairs ≡ Ok gs) → IfSome told (λ files. statements_due names files query ≡ Ok statements) → WritesAnswer names gs (node_query statements) out result
+      → Answers (call_of told before after out) result
+  written told gs statements before after out result a b w = by (node_query statements) refl w
+    where
+      by : (asked : Option NodeQuery) → node_query statements ≡ asked → WritesAnswer names gs asked out result → Answers (call_of told before after out) result
+      by None same h = unbuilt told gs statements before after out result a b same h
+      by (Some q) same h = answered told gs statements q before after out result a b same h
 
 -- what a call that stops for a cause answers
 pub answers_stop : (call : Call) (result : Result (Unit {0}) Stop) (stop : Stop) → IsErr result → IsErrAnd result (λ refusal. refusal ≡ stop) → StopsFor call stop → Answers call result

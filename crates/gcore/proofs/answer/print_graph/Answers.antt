@@ -1,8 +1,7 @@
 use Rattle.std.proofs.Common.{◌∷◌, ◌++◌, [], ap, ◌∙◌}
-use Rattle.gc_json.specs.CanonicalText.{canonical_text}
 use Rattle.gcore.specs.Outcomes.{printed}
-use Rattle.gcore.proofs.answer.print_labelled.Goals as goal
+use Rattle.gcore.proofs.answer.print_graph.Goals as goal
 
 pub returns : goal.returns
 unfolding printed
-returns g c = c.in_ok-push.ensures.ok ∙ ap (λ text. text ++ 10 ∷ []) (c.in_ok-text.ensures.text ∙ ap canonical_text c.in_ok-selected.ensures)
+returns g c = c.in_ok-push.ensures.ok ∙ ap (λ text. text ++ 10 ∷ []) c.in_ok-text.ensures.text
