@@ -92,7 +92,7 @@ printed g = canonical_text g ++ 10 ∷ []
 pub record IsTextOf (r : Request) (text : List ℕ) : Type 0 where
   pub graph : PropertyGraph
   pub answer : IsAnswer r.names r.graphs r.query graph
-  pub text : text ≡ printed graph
+  pub written : text ≡ printed graph
 
 -- first the graph files, then the query file
 abbrev pub run_due : Files → List ℕ → List Pair → Result Request Stop
