@@ -27,7 +27,7 @@ pub record IsMatched (graphs : List PropertyGraph) (block : Block) (vars : List 
   pub table : HasRowsOf graphs block part rows
   pub made : IsOfBoundNodes (record { rows = rows; reads = block.reads; graphs = graphs }) vars g
 
--- names as numbers of a table: the query's block with its names numbered, and the numbers of the nodes that it asks for
+-- a query with its names numbered by a table: its block, and the variables of the nodes that it asks for
 pub record IsNumbered (query : NodeQuery) (names : Names) (main : MatchBlock) (vars : List Sym) : Type 0 where
   pub written : block_tree names main ≡ query.block
   pub named : map (name_of names) vars ≡ query.names
@@ -45,7 +45,7 @@ pub record IsAnswer (graph_names : List (List ℕ)) (graphs : List PropertyGraph
   pub lowered : IsLowered atoms block
   pub matched : IsMatched graphs block vars g
 
--- there is an answer exactly where the query is built
+-- there is an answer exactly where a query is built, and it is right
 abbrev pub IsAnswering : List (List ℕ) → List PropertyGraph → Option NodeQuery → Option PropertyGraph → Type 0
 IsAnswering graph_names graphs None None = ⊤
 IsAnswering graph_names graphs None (Some g) = ⊥

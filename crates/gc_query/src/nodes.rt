@@ -62,7 +62,7 @@ fn bytes_of(names: &NameTable, sym: Sym) -> &[u8]
     }
 }
 
-// The variables of the node patterns of chains that have a name.
+// The variables of those node patterns of chains that have a name.
 fn node_vars(alloc: Global, located: &[Located]) -> Result<Vec<Sym>, Memory>
     ensures { (names : Names) → IfOk result (λ vars. map (name_of names) vars.items ≡ node_names (row (map (located_tree names) located.now))) }
 {
