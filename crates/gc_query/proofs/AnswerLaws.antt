@@ -14,10 +14,10 @@ use Rattle.gc_ast.specs.declared.query.MatchBlock.{MatchBlock, out-MatchBlock}
 use Rattle.gc_ast.specs.Trees as tree
 use Rattle.gc_ast.specs.Trees.{Tree, ABlock, AnItem, AnOptional, RowOf, row}
 use Rattle.gc_alg.specs.declared.block.Block.{Block}
-use Rattle.gc_lower.specs.Asked.{Asked, IsLowered, IsLowering, asked}
+use Rattle.gc_lower.specs.Asked.{Asked, IsLowering, asked}
 use Rattle.gc_lower.specs.Chains.{Scope}
 use Rattle.gc_spec.specs.PropertyGraph.{PropertyGraph}
-use Rattle.gc_query.specs.NodeAnswers.{IsAnswer, IsAnswering, IsMatched}
+use Rattle.gc_query.specs.NodeAnswers.{IsAnswering, IsMatched}
 use Rattle.gc_query.specs.NodeQueries.{NodeQuery, asked_if, asked_in, basic_query, block_names, is_matched, item_names, node_names}
 use Rattle.gc_query.proofs.MatchedLaws.{asks_where_matched}
 use Rattle.gc_query.proofs.TreeParts.{basic_parts, block_parts}

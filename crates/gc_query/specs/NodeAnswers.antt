@@ -7,11 +7,10 @@ use Rattle.gc_ast.specs.QueryViews.{block_tree}
 use Rattle.gc_ast.specs.declared.query.MatchBlock.{MatchBlock}
 use Rattle.gc_rows.specs.declared.row.Binding.{Binding}
 use Rattle.gc_spec.specs.PropertyGraph.{PropertyGraph}
-use Rattle.gc_alg.specs.Matches.{IsRowOfPart, Setting}
+use Rattle.gc_alg.specs.Matches.{IsRowOfPart}
 use Rattle.gc_alg.specs.declared.block.Block.{Block}
 use Rattle.gc_alg.specs.declared.block.Part.{Part}
 use Rattle.gc_lower.specs.Asked.{Asked, IsLowered, asked}
-use Rattle.gc_lower.specs.Chains.{Scope}
 use Rattle.gc_build.specs.BoundNodes.{IsOfBoundNodes}
 use Rattle.gc_query.specs.NodeQueries.{NodeQuery}
 
