@@ -1,6 +1,7 @@
 -- The graph that answers a query for nodes.
 use Rattle.std.specs.Prelude.{◌≡◌, ◌↔◌, ℕ, List, [], ◌∷◌, map, Option, Some, None, ⊤}
-use Rattle.std.specs.List.{Contains}
+use Rattle.std.specs.List.{Contains, IsDistinct}
+use Rattle.gc_ast.specs.Names.{same_name}
 use Rattle.gc_base.specs.declared.place.Sym.{Sym}
 use Rattle.gc_expr.specs.Views.{Names, name_of}
 use Rattle.gc_ast.specs.QueryViews.{block_tree}
@@ -26,8 +27,9 @@ pub record IsMatched (graphs : List PropertyGraph) (block : Block) (vars : List 
   pub table : HasRowsOf graphs block part rows
   pub made : IsOfBoundNodes (record { rows = rows; reads = block.reads; graphs = graphs }) vars g
 
--- a query with its names numbered by a table: its block, and the variables of the nodes that it asks for
+-- a query with its names numbered by a table that has each once: its block, and the variables of the nodes that it asks for
 pub record IsNumbered (query : NodeQuery) (names : Names) (main : MatchBlock) (vars : List Sym) : Type 0 where
+  pub distinct : IsDistinct same_name names
   pub written : block_tree names main ≡ query.block
   pub named : map (name_of names) vars ≡ query.names
 
