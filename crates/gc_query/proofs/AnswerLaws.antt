@@ -1,7 +1,7 @@
 -- When a CONSTRUCT is answered, by its items and its block.
 use Rattle.std.proofs.Common.{◌≡◌, ◌&&◌, ℕ, Bool, true, false, List, [], ◌∷◌, map, Option, Some, None, Vec, Global, refl, sym, ap, subst, ◌∙◌}
 use Rattle.std.specs.Prelude.{if◌then◌else◌}
-use Rattle.std.specs.List.{list_all, list_any}
+use Rattle.std.specs.List.{list_all, list_any, IsDistinct}
 use Rattle.std.specs.Option.{is_some, option_map}
 use Rattle.gc_base.specs.PropertyLists.{is_nil}
 use Rattle.gc_base.specs.declared.place.Sym.{Sym}
@@ -14,10 +14,10 @@ use Rattle.gc_ast.specs.declared.query.MatchBlock.{MatchBlock, out-MatchBlock}
 use Rattle.gc_ast.specs.Trees as tree
 use Rattle.gc_ast.specs.Trees.{Tree, ABlock, AnItem, AnOptional, RowOf, row}
 use Rattle.gc_alg.specs.declared.block.Block.{Block}
-use Rattle.gc_lower.specs.Asked.{Asked, IsLowered, IsLowering, asked}
+use Rattle.gc_lower.specs.Asked.{Asked, IsLowering, asked}
 use Rattle.gc_lower.specs.Chains.{Scope}
 use Rattle.gc_spec.specs.PropertyGraph.{PropertyGraph}
-use Rattle.gc_query.specs.NodeAnswers.{IsAnswer, IsAnswering, IsMatched}
+use Rattle.gc_query.specs.NodeAnswers.{IsAnswering, IsMatched}
 use Rattle.gc_query.specs.NodeQueries.{NodeQuery, asked_if, asked_in, basic_query, block_names, is_matched, item_names, node_names}
 use Rattle.gc_query.proofs.MatchedLaws.{asks_where_matched}
 use Rattle.gc_query.proofs.TreeParts.{basic_parts, block_parts}
@@ -85,17 +85,17 @@ module _ (graph_names : List (List ℕ)) (graphs : List PropertyGraph) (names : 
   unmatched h =
       asks ∙ (ap (λ b. if are_named && b then Some query else None) (not_lowered (asked scope main) h) ∙ ap (λ b. if b then Some query else None) (and_false are_named))
 
-  answered_with : (found : Option Asked) (block : Block) (g : PropertyGraph) → asked scope main ≡ found → IsLowering found (Some block) → are_named ≡ true → IsMatched graphs block vars g
+  answered_with : (found : Option Asked) (block : Block) (g : PropertyGraph) → asked scope main ≡ found → IsLowering found (Some block) → IsDistinct same_name names → are_named ≡ true → IsMatched graphs block vars g
       → IsAnswering graph_names graphs (if are_named && is_some (asked scope main) then Some query else None) (Some g)
-  answered_with None block g same lowered named matched = absurd lowered
-  answered_with (Some atoms) block g same lowered named matched =
+  answered_with None block g same lowered distinct named matched = absurd lowered
+  answered_with (Some atoms) block g same lowered distinct named matched =
       subst (λ b. IsAnswering graph_names graphs (if b && is_some (asked scope main) then Some query else None) (Some g)) (sym named)
       (subst (λ o. IsAnswering graph_names graphs (if is_some o then Some query else None) (Some g)) (sym same)
       (record {
         names = names;
         main = main;
         vars = vars;
-        numbered = record { written = refl; named = refl };
+        numbered = record { distinct = distinct; written = refl; named = refl };
         atoms = atoms;
         asks = same;
         block = block;
@@ -103,7 +103,7 @@ module _ (graph_names : List (List ℕ)) (graphs : List PropertyGraph) (names : 
         matched = matched;
       }))
 
-  pub answered : (block : Block) (g : PropertyGraph) → are_named ≡ true → IsLowering (asked scope main) (Some block) → IsMatched graphs block vars g
+  pub answered : (block : Block) (g : PropertyGraph) → IsDistinct same_name names → are_named ≡ true → IsLowering (asked scope main) (Some block) → IsMatched graphs block vars g
       → IsAnswering graph_names graphs (asked_in (block_tree names main) (map (name_of names) vars)) (Some g)
-  answered block g named lowered matched =
-      subst (λ q. IsAnswering graph_names graphs q (Some g)) (sym asks) (answered_with (asked scope main) block g refl lowered named matched)
+  answered block g distinct named lowered matched =
+      subst (λ q. IsAnswering graph_names graphs q (Some g)) (sym asks) (answered_with (asked scope main) block g refl lowered distinct named matched)

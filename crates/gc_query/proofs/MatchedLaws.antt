@@ -1,5 +1,5 @@
 -- A block asks for atoms and conjuncts exactly where its tree is matched.
-use Rattle.std.proofs.Common.{◌≡◌, ◌&&◌, ◌||◌, ℕ, Bool, true, false, List, [], ◌∷◌, ◌++◌, map, Option, Some, None, refl, sym, ap, ◌∙◌, rules}
+use Rattle.std.proofs.Common.{◌≡◌, ◌&&◌, ◌||◌, ℕ, List, [], ◌∷◌, map, Option, Some, None, refl, sym, ap, ◌∙◌, rules}
 use Rattle.std.specs.Option.{is_some, option_map}
 use Rattle.gc_base.specs.declared.place.Sym.{Sym}
 use Rattle.gc_expr.specs.Trees.{TreeOf, ExprTree, AnExpr, renamed}
@@ -58,7 +58,7 @@ module _ (s : Scope) where
   chain_there graph left [] = refl
   chain_there graph left (p ∷ ps) =
       let here = between graph left (next_variable s ps) p
-          ∙ ap (λ b. is_node (pattern_tree s.names p) || ((is_some left && b) && is_link (pattern_tree s.names p))) (next_there ps) in
+      ∙ ap (λ b. is_node (pattern_tree s.names p) || ((is_some left && b) && is_link (pattern_tree s.names p))) (next_there ps) in
       let later = chain_there graph (node_variable s p) ps ∙ ap (λ b. is_chain_matched b (row (map (pattern_tree s.names) ps))) (node_there p) in
       both_there (part_atoms s graph left (next_variable s ps) p) (chain_atoms s graph (node_variable s p) ps) ∙ (λ i. here i && later i)
 

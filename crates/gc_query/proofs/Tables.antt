@@ -1,5 +1,5 @@
 -- The table of the tree in the order of the text has the rows of its part.
-use Rattle.std.proofs.Common.{◌≡◌, ℕ, List, [], ◌∷◌, length, Result, Ok, Err, Some, refl, sym, subst, ap, ◌∙◌}
+use Rattle.std.proofs.Common.{◌≡◌, List, [], ◌∷◌, length, Result, Ok, Err, Some, refl, subst, ap, ◌∙◌}
 use Rattle.std.specs.Prelude.{IfOk, slice_get}
 use Rattle.gc_spec.specs.PropertyGraph.{PropertyGraph}
 use Rattle.gc_base.specs.declared.place.Sym.{Sym}

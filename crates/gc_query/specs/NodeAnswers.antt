@@ -1,17 +1,17 @@
 -- The graph that answers a query for nodes.
 use Rattle.std.specs.Prelude.{◌≡◌, ◌↔◌, ℕ, List, [], ◌∷◌, map, Option, Some, None, ⊤}
-use Rattle.std.specs.List.{Contains}
+use Rattle.std.specs.List.{Contains, IsDistinct}
+use Rattle.gc_ast.specs.Names.{same_name}
 use Rattle.gc_base.specs.declared.place.Sym.{Sym}
 use Rattle.gc_expr.specs.Views.{Names, name_of}
 use Rattle.gc_ast.specs.QueryViews.{block_tree}
 use Rattle.gc_ast.specs.declared.query.MatchBlock.{MatchBlock}
 use Rattle.gc_rows.specs.declared.row.Binding.{Binding}
 use Rattle.gc_spec.specs.PropertyGraph.{PropertyGraph}
-use Rattle.gc_alg.specs.Matches.{IsRowOfPart, Setting}
+use Rattle.gc_alg.specs.Matches.{IsRowOfPart}
 use Rattle.gc_alg.specs.declared.block.Block.{Block}
 use Rattle.gc_alg.specs.declared.block.Part.{Part}
 use Rattle.gc_lower.specs.Asked.{Asked, IsLowered, asked}
-use Rattle.gc_lower.specs.Chains.{Scope}
 use Rattle.gc_build.specs.BoundNodes.{IsOfBoundNodes}
 use Rattle.gc_query.specs.NodeQueries.{NodeQuery}
 
@@ -27,8 +27,9 @@ pub record IsMatched (graphs : List PropertyGraph) (block : Block) (vars : List 
   pub table : HasRowsOf graphs block part rows
   pub made : IsOfBoundNodes (record { rows = rows; reads = block.reads; graphs = graphs }) vars g
 
--- names as numbers of a table: the query's block with its names numbered, and the numbers of the nodes that it asks for
+-- a query with its names numbered by a table that has each once: its block, and the variables of the nodes that it asks for
 pub record IsNumbered (query : NodeQuery) (names : Names) (main : MatchBlock) (vars : List Sym) : Type 0 where
+  pub distinct : IsDistinct same_name names
   pub written : block_tree names main ≡ query.block
   pub named : map (name_of names) vars ≡ query.names
 
@@ -45,7 +46,7 @@ pub record IsAnswer (graph_names : List (List ℕ)) (graphs : List PropertyGraph
   pub lowered : IsLowered atoms block
   pub matched : IsMatched graphs block vars g
 
--- there is an answer exactly where the query is built
+-- there is an answer exactly where a query is built, and it is right
 abbrev pub IsAnswering : List (List ℕ) → List PropertyGraph → Option NodeQuery → Option PropertyGraph → Type 0
 IsAnswering graph_names graphs None None = ⊤
 IsAnswering graph_names graphs None (Some g) = ⊥

@@ -1,7 +1,6 @@
 -- Which query files are built: one statement, which is a CONSTRUCT of nodes of its MATCH by their names alone.
 use Rattle.std.specs.Prelude.{ℕ, List, [], ◌∷◌, ◌++◌, Bool, true, false, ◌&&◌, ◌||◌, if◌then◌else◌, Option, Some, None}
 use Rattle.std.specs.List.{list_all, list_any}
-use Rattle.std.specs.Option.{option_map}
 use Rattle.gc_ast.specs.Names.{same_name}
 use Rattle.gc_ast.specs.Trees as tree
 use Rattle.gc_ast.specs.Trees.{Tree, Named, RowOf, AStatement, AFormula, ABasic, ABlock, ALocated, APattern, AnElement, APathBody, AnItem, AConstructPart, ANewElement}
@@ -12,17 +11,17 @@ pub record NodeQuery : Type 0 where
   pub names : List (List ℕ)
   pub block : Tree ABlock
 
--- a new node that has a name and nothing else
+-- the name of a new node that has nothing else
 abbrev pub new_name : Tree ANewElement → Option (List ℕ)
 new_name (tree.NewElement token (Some x) None tree.none [] tree.none) = Some x.name
 new_name element = None
 
--- `(v)`
+-- the name in `(v)`
 abbrev pub part_name : Tree AConstructPart → Option (List ℕ)
 part_name (tree.NewNode element) = new_name element
 part_name part = None
 
--- a chain of one node, without changes and condition
+-- the name in an item that is `(v)` alone, without changes and condition
 abbrev pub item_name : Tree AnItem → Option (List ℕ)
 item_name (tree.ChainItem (tree.more part tree.none) tree.none tree.none) = part_name part
 item_name item = None
@@ -37,7 +36,7 @@ abbrev pub item_names : Tree (RowOf AnItem) → Option (List (List ℕ))
 item_names tree.none = Some []
 item_names (tree.more item items) = with_front (item_name item) (item_names items)
 
--- the names of the node patterns of a chain, and of chains
+-- the name of a pattern as a list, empty where it has none
 abbrev pub listed : Option Named → List (List ℕ)
 listed None = []
 listed (Some x) = x.name ∷ []
@@ -49,6 +48,7 @@ abbrev pub pattern_names : Tree APattern → List (List ℕ)
 pattern_names (tree.Node element) = element_names element
 pattern_names pattern = []
 
+-- the names of the node patterns of a chain, and of chains
 abbrev pub chain_names : Tree (RowOf APattern) → List (List ℕ)
 chain_names tree.none = []
 chain_names (tree.more pattern patterns) = pattern_names pattern ++ chain_names patterns
@@ -75,7 +75,7 @@ abbrev pub begins_with_node : Tree (RowOf APattern) → Bool
 begins_with_node tree.none = false
 begins_with_node (tree.more pattern patterns) = is_node pattern
 
--- a chain of nodes and such links in turn, behind a part that may be a node
+-- each part of a chain is a node, or such a link with a node before and after it
 abbrev pub is_chain_matched : (behind_node : Bool) → Tree (RowOf APattern) → Bool
 is_chain_matched behind_node tree.none = true
 is_chain_matched behind_node (tree.more pattern patterns) =
@@ -85,19 +85,21 @@ abbrev pub are_matched : Tree (RowOf ALocated) → Bool
 are_matched tree.none = true
 are_matched (tree.more (tree.Located parts on) located) = is_chain_matched false parts && are_matched located
 
--- a WHERE has no EXISTS
+-- there is no condition, or one without EXISTS
 abbrev pub has_no_exists : Tree (RowOf AFormula) → Bool
 has_no_exists tree.none = true
 has_no_exists (tree.more (tree.Formula e tree.none) formulas) = true
 has_no_exists formulas = false
 
+-- a block of such patterns and such a condition
 abbrev pub is_matched : Tree ABlock → Bool
 is_matched (tree.Block patterns filter) = are_matched patterns && has_no_exists filter
 
+-- the names of the node patterns of a block
 abbrev pub block_names : Tree ABlock → List (List ℕ)
 block_names (tree.Block patterns filter) = node_names patterns
 
--- the names, where each is that of a node of the block, and the block is matched
+-- what asks for these names, where each is that of a node of the block, and the block is matched
 abbrev pub asked_in : Tree ABlock → List (List ℕ) → Option NodeQuery
 asked_in block names =
     if list_all (λ name. list_any (same_name name) (block_names block)) names && is_matched block then Some (record { names = names; block = block }) else None
@@ -111,10 +113,10 @@ abbrev pub basic_query : Tree ABasic → Option NodeQuery
 basic_query (tree.Basic token items block tree.none) = asked_if block (item_names items)
 basic_query basic = None
 
--- what the CONSTRUCT that is all of a file asks for, if one is and it is built
 abbrev pub basic_query_if : Option (Tree ABasic) → Option NodeQuery
 basic_query_if None = None
 basic_query_if (Some basic) = basic_query basic
 
+-- what a query file asks for, where one CONSTRUCT is all of it and is built
 abbrev pub node_query : List (Tree AStatement) → Option NodeQuery
 node_query statements = basic_query_if (only_basic statements)

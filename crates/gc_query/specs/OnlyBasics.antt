@@ -8,7 +8,7 @@ abbrev pub only : {A : Type 0} → List A → Option A
 only (x ∷ []) = Some x
 only xs = None
 
--- that of a query without heads and of one term
+-- the CONSTRUCT that is all of a query: of one without heads and of one term
 abbrev pub query_basic : Tree AQuery → Option (Tree ABasic)
 query_basic (tree.Query tree.none (tree.BasicTerm basic) tree.none) = Some basic
 query_basic query = None
@@ -17,7 +17,7 @@ abbrev pub statement_basic : Tree AStatement → Option (Tree ABasic)
 statement_basic (tree.Ask query) = query_basic query
 statement_basic statement = None
 
--- that of a file of one statement
+-- the CONSTRUCT that is all of a file: of one statement
 abbrev pub only_basic : List (Tree AStatement) → Option (Tree ABasic)
 only_basic (statement ∷ []) = statement_basic statement
 only_basic statements = None

@@ -20,8 +20,8 @@ use gc_rows::{Row, Table};
 use std::alloc::Global;
 use std::sync::ledger::Ledger;
 
-/// What a query is answered over: graphs by number, and their names. It carries the allocator of what
-/// is made.
+// What a query is answered over: graphs and their names, both by number. It carries the allocator of
+// what is made.
 #[derive(Drop)]
 struct Session<'a> {
     alloc: Global,
@@ -29,8 +29,10 @@ struct Session<'a> {
     graphs: &'a GraphList,
 }
 
-/// The graph that answers a query file over graphs of these names, or `None` exactly where the query
-/// is not built.
+/// The graph that answers a query file over graphs and their names, both by number; `steps` counts
+/// what is read. There is `None` exactly where the query is not built: where the file is anything but
+/// one CONSTRUCT of nodes of its MATCH by their names alone. Numbers that pass their type are want of
+/// memory.
 pub fn answer<L: Ledger>(
     alloc: Global,
     file: &File,
@@ -51,7 +53,7 @@ pub fn answer<L: Ledger>(
     }
 }
 
-// The graph that answers a CONSTRUCT with its MATCH, by the names of its file.
+// The graph that answers a CONSTRUCT with its MATCH. The table has the names of its file.
 fn basic_answer<L: Ledger>(
     session: &Session<'_>,
     table: &NameTable,
@@ -69,7 +71,7 @@ fn basic_answer<L: Ledger>(
     }
 }
 
-// The graph of the nodes of these variables in a block.
+// The graph of the nodes that a block binds to these variables.
 fn block_answer<L: Ledger>(
     session: &Session<'_>,
     table: &NameTable,
@@ -88,7 +90,7 @@ fn block_answer<L: Ledger>(
     }
 }
 
-// The nodes to which the rows of a block of one part bind variables.
+// The graph of the nodes to which the rows of a block of one part bind variables.
 fn matched<L: Ledger>(
     session: &Session<'_>,
     block: &Block,
@@ -110,7 +112,7 @@ fn matched<L: Ledger>(
     )
 }
 
-// The table of a block of one part.
+// The rows of a block of one part, when nothing is given.
 fn block_table<L: Ledger>(
     session: &Session<'_>,
     block: &Block,

@@ -25,6 +25,7 @@ pub fn item_vars(alloc: Global, items: &[Item]) -> Result<Option<Vec<Sym>>, Memo
     Ok(Some(vars))
 }
 
+// The name in `(v)`, where an item is that alone.
 #[tactic(auto, using(crate::proofs::ItemLaws::of_parts), unfolding(gc_ast::specs::QueryViews::item_by, gc_ast::specs::QueryViews::part_by, gc_ast::specs::QueryViews::change_by, gc_ast::specs::QueryViews::formula_by))]
 fn item_name(item: &Item) -> Option<NameAt>
     ensures { (names : Names) → option_map (λ name. name_of names name.sym) result ≡ item_name (item_tree names item.now) }
@@ -71,6 +72,7 @@ fn part_name(part: &ConstructPart) -> Option<NameAt>
     }
 }
 
+// The name of a new element that has nothing else.
 #[tactic(auto, using(crate::proofs::ItemLaws::of_bare), unfolding(gc_ast::specs::QueryViews::new_element_by, gc_ast::specs::QueryViews::assign_by))]
 fn new_name(element: &NewElement) -> Option<NameAt>
     ensures { (names : Names) → option_map (λ name. name_of names name.sym) result ≡ new_name (new_element_tree names element.now) }

@@ -1,5 +1,5 @@
-//! Statements. So far it answers one query of nodes of a MATCH. Others rely on `answer`. This crate
-//! knows of no file and no text.
+//! What a query file answers. So far that is the nodes which one CONSTRUCT names of its MATCH. Others
+//! rely on `answer`. This crate reads no text and knows of no folder.
 #![tactic(auto)]
 
 mod answers;
@@ -7,5 +7,7 @@ mod basics;
 mod items;
 mod nodes;
 mod plans;
+#[cfg(test)]
+mod tests;
 
 pub use answers::answer;

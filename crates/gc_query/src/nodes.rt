@@ -1,5 +1,5 @@
 ghost use Rattle.std.specs.Prelude.{◌≡◌, map, IfOk, OnOk, ◌++◌};
-ghost use Rattle.std.specs.List.{list_all, list_any};
+ghost use Rattle.std.specs.List.{list_all, list_any, IsDistinct};
 ghost use Rattle.gc_expr.specs.Views.{Names, name_of};
 ghost use Rattle.gc_ast.specs.Names.{same_name};
 ghost use Rattle.gc_ast.specs.Trees.{row};
@@ -7,24 +7,27 @@ ghost use Rattle.gc_ast.specs.PatternViews.{located_tree, pattern_tree};
 ghost use Rattle.gc_query.specs.NodeQueries.{chain_names, node_names, pattern_names};
 
 use gc_ast::{Located, NameTable, Pattern};
-use gc_base::{Memory, Sym};
+use gc_base::{Memory, Name, Sym};
 use std::alloc::Global;
 
-/// Whether each variable has the name of a node pattern of these chains.
+/// Whether each variable has the name of a node pattern of these chains. Each name stands once in its
+/// table, so that variables of one name are one.
 pub fn are_nodes(
     alloc: Global,
     names: &NameTable,
     located: &[Located],
     vars: &[Sym],
 ) -> Result<bool, Memory>
-    ensures { IfOk result (λ all. all ≡ list_all (λ name. list_any (same_name name) (node_names (row (map (located_tree names.now) located.now)))) (map (name_of names.now) vars.now)) }
+    ensures named { IfOk result (λ all. all ≡ list_all (λ name. list_any (same_name name) (node_names (row (map (located_tree names.now) located.now)))) (map (name_of names.now) vars.now)) }
+    ensures distinct { IsDistinct same_name names.now }
 {
+    let words = names.as_slice();
     let nodes = node_vars(alloc, located)?;
-    Ok(are_among(names, &nodes, vars))
+    Ok(are_among(words, &nodes, vars))
 }
 
 // Whether each variable has the name of one of others.
-fn are_among(names: &NameTable, others: &[Sym], vars: &[Sym]) -> bool
+fn are_among(names: &[Name], others: &[Sym], vars: &[Sym]) -> bool
     ensures { result ≡ list_all (λ name. list_any (same_name name) (map (name_of names.now) others.now)) (map (name_of names.now) vars.now) }
 {
     for var in vars {
@@ -35,7 +38,7 @@ fn are_among(names: &NameTable, others: &[Sym], vars: &[Sym]) -> bool
     true
 }
 
-fn is_among(names: &NameTable, others: &[Sym], var: Sym) -> bool
+fn is_among(names: &[Name], others: &[Sym], var: Sym) -> bool
     ensures { result ≡ list_any (same_name (name_of names.now var)) (map (name_of names.now) others.now) }
 {
     for other in others {
@@ -46,23 +49,23 @@ fn is_among(names: &NameTable, others: &[Sym], var: Sym) -> bool
     false
 }
 
-fn have_one_name(names: &NameTable, var: Sym, other: Sym) -> bool
+fn have_one_name(names: &[Name], var: Sym, other: Sym) -> bool
     ensures { result ≡ same_name (name_of names.now var) (name_of names.now other) }
 {
     bytes_of(names, var) == bytes_of(names, other)
 }
 
 // The bytes of a name of a file. A number that its table lacks has none.
-fn bytes_of(names: &NameTable, sym: Sym) -> &[u8]
+fn bytes_of(names: &[Name], sym: Sym) -> &[u8]
     ensures { result.now ≡ name_of names.now sym }
 {
-    match names.as_slice().get(sym.0 as usize) {
+    match names.get(sym.0 as usize) {
         Some(name) => name.bytes(),
         None => &[],
     }
 }
 
-// The variables of the node patterns of chains that have a name.
+// The variables of those node patterns of chains that have a name.
 fn node_vars(alloc: Global, located: &[Located]) -> Result<Vec<Sym>, Memory>
     ensures { (names : Names) → IfOk result (λ vars. map (name_of names) vars.items ≡ node_names (row (map (located_tree names) located.now))) }
 {

@@ -9,7 +9,7 @@ returns-then-not-branch g c =
 pub returns-in_ok-matched-in-Some : goal.returns-in_ok-matched-in-Some
 returns-in_ok-matched-in-Some g c =
     answered c.args.session.now.names.now c.args.session.now.graphs.now c.args.table.now c.args.main.now c.args.vars.now c.in-Some.block c.in_ok-matched-in-Some.field-0
-    (search rules) (search rules) (search rules)
+    (search rules) (search rules) (search rules) (search rules)
 
 pub returns-in-None : goal.returns-in-None
 returns-in-None g c =
