@@ -9,6 +9,8 @@ mod difference;
 mod intersection;
 mod lists;
 mod part;
+#[cfg(test)]
+mod tests;
 mod union_of;
 
 pub use descriptions::{unite_labels, unite_properties};
