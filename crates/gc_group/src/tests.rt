@@ -1,7 +1,8 @@
-// Aggregates with ample memory, whose values were worked out by hand.
-use crate::fold;
-use gc_base::{Literal, ValueSet};
+// Each call with ample memory, on rows whose groups and values were worked out by hand.
+use crate::{Group, Key, KeyParts, fold, groups};
+use gc_base::{Id, Literal, ValueSet};
 use gc_expr::Fold;
+use gc_rows::Datum;
 use gc_values::{Val, Why};
 use std::alloc::Global;
 use std::test::Fail;
@@ -55,5 +56,32 @@ fn a_sum_of_an_undefined_operand_has_its_reason(rt: HostRuntime) -> Result<(), F
         Val::Set(_) | Val::Element(_) | Val::Walked => None,
     };
     assert!(rt; reason == Some(Why::ZeroDivisor));
+    Ok(())
+}
+
+// A key of one node.
+fn key(alloc: Global, node: u64) -> Result<Key, Fail> {
+    let mut parts = KeyParts::new(alloc);
+    parts.push(Some(Datum::Node(Id::new(node).ok_or("an identity")?)))?;
+    Ok(Key { parts })
+}
+
+fn has_rows(group: &Group, rows: &[u64]) -> bool {
+    group.rows.as_slice() == rows
+}
+
+#[test]
+fn rows_of_a_key_are_together(rt: HostRuntime) -> Result<(), Fail> {
+    let alloc = rt.alloc();
+    let keys = [
+        Some(key(alloc, 7)?),
+        None,
+        Some(key(alloc, 5)?),
+        Some(key(alloc, 7)?),
+    ];
+    let groups = groups(alloc, &keys)?;
+    assert!(rt; groups.len() == 2);
+    assert!(rt; has_rows(&groups[0], &[2]));
+    assert!(rt; has_rows(&groups[1], &[0, 3]));
     Ok(())
 }
