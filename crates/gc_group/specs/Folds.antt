@@ -94,7 +94,11 @@ abbrev pub defined_or : Option Why → Val → Val
 defined_or (Some why) value = Undefined why
 defined_or None value = value
 
--- an aggregate over the operands of the rows of a group; COUNT(*) asks nothing of an operand
+-- why an operand leaves the aggregate without a value; COUNT(*) asks nothing of it
+abbrev pub reason : Fold → List Val → Option Why
+reason Rows values = None
+reason how values = first_reason values
+
+-- an aggregate over the operands of the rows of a group
 abbrev pub folded : Fold → List Val → Val
-folded Rows values = number_set (length values)
-folded how values = defined_or (first_reason values) (defined how values)
+folded how values = defined_or (reason how values) (defined how values)

@@ -3,10 +3,11 @@ ghost use Rattle.std.specs.List.{filter, list_all};
 ghost use Rattle.std.specs.Option.{option_copied};
 ghost use Rattle.gc_base.specs.Ascending.{with_item};
 ghost use Rattle.gc_base.specs.Literals.{literal_order};
-ghost use Rattle.gc_group.specs.Folds.{folded, defined, first_reason, is_there, addend, total, summed, all_literals, collected, number_set, set_of};
+ghost use Rattle.gc_group.specs.Folds.{folded, defined, reason, first_reason, is_there, addend, total, summed, all_literals, collected, number_set, set_of};
 ghost use Rattle.gc_values.specs.Arithmetic.{one, exact};
 
 use crate::ends::{End, outermost};
+use crate::listed::collect;
 use gc_base::{Duplicate, Literal, Memory, ValueSet};
 use gc_expr::Fold;
 use gc_values::{Val, Why};
@@ -17,14 +18,19 @@ use std::alloc::Global;
 pub fn fold(alloc: Global, how: Fold, values: &[Val]) -> Result<Val, Memory>
     ensures { IfOk result (λ v. v ≡ folded how values.now) }
 {
+    match reason(how, values) {
+        Some(why) => Ok(Val::Undefined(why)),
+        None => fold_defined(alloc, how, values),
+    }
+}
+
+// Why the operand leaves the aggregate without a value; COUNT(*) asks nothing of it.
+fn reason(how: Fold, values: &[Val]) -> Option<Why>
+    ensures { result ≡ reason how values.now }
+{
     match how {
-        Fold::Rows => number(alloc, values.len()),
-        Fold::Count | Fold::Sum | Fold::Min | Fold::Max | Fold::Collect => {
-            match first_reason(values) {
-                Some(why) => Ok(Val::Undefined(why)),
-                None => fold_defined(alloc, how, values),
-            }
-        }
+        Fold::Rows => None,
+        Fold::Count | Fold::Sum | Fold::Min | Fold::Max | Fold::Collect => first_reason(values),
     }
 }
 
@@ -161,27 +167,4 @@ fn total(values: &[Val]) -> i128
         sum += addend(value).unwrap_or(0) as i128;
     }
     sum
-}
-
-// The literals of all rows, as a set.
-fn collect(alloc: Global, values: &[Val]) -> Result<ValueSet, Memory>
-    ensures { IfOk result (λ set. set ≡ collected (all_literals values.now)) }
-{
-    let mut set = ValueSet::empty(alloc);
-    for value in values {
-        if let Val::Set(literals) = value {
-            unite(&mut set, literals.as_slice())?;
-        }
-    }
-    Ok(set)
-}
-
-// Adds literals to a set.
-fn unite(set: &mut ValueSet, literals: &[Literal]) -> Result<(), Memory>
-    ensures { OnOk result (set.new ≡ fold (with_item literal_order) set.old literals.now) }
-{
-    for literal in literals {
-        set.insert(literal.copy()?)?;
-    }
-    Ok(())
 }

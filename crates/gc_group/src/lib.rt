@@ -8,6 +8,7 @@ mod folds;
 mod grouping;
 mod held;
 mod key;
+mod listed;
 #[cfg(test)]
 mod tests;
 
