@@ -1,0 +1,4 @@
+pub mod CollectLaws
+pub mod GroupLaws
+pub mod KeyOrder
+pub mod SortLaws
