@@ -6,9 +6,10 @@ use Rattle.gc_base.specs.Faults.{Rose}
 use Rattle.gc_base.specs.Files.{Files}
 use Rattle.gc_ast.specs.Trees.{Tree, AStatement}
 use Rattle.gc_spec.specs.PropertyGraph.{PropertyGraph}
+use Rattle.gc_query.specs.NodeAnswers.{IsAnswering}
 use Rattle.gc_query.specs.NodeQueries.{NodeQuery, node_query}
-use Rattle.gcore.specs.Outcomes.{IsTextDue, IsTextOf, Request, built, file_due, graph_names, graphs_due, outcome, query_due, query_limit, request, statements_due, then_due}
-use Rattle.gcore.specs.Endings.{Answers, Call, Change, GainsDuePrefix, GainsNothing, HoldsAnswer, HoldsText, IsDue, StopsFor, WritesAnswer}
+use Rattle.gcore.specs.Outcomes.{IsTextDue, IsTextOf, Request, built, file_due, graph_names, graphs_due, outcome, printed, query_due, query_limit, request, statements_due, then_due}
+use Rattle.gcore.specs.Endings.{Answers, Call, Change, GainsDuePrefix, GainsNothing, HoldsAnswer, HoldsText, StopsFor, WritesAnswer, WritesText}
 use Rattle.gcore.specs.GraphSteps.{StopsReadingGraphs}
 use Rattle.gcore.specs.QueryFiles.{statements_of}
 use Rattle.gcore.specs.Steps.{StopsReadingQuery}
@@ -177,3 +178,10 @@ module _ (query : List ℕ) (pairs : List Pair) where
 pub answers_stop : (call : Call) (result : Result (Unit {0}) Stop) (stop : Stop) → IsErr result → IsErrAnd result (λ refusal. refusal ≡ stop) → StopsFor call stop → Answers call result
 answers_stop call (Ok done) stop err same stops = absurd same
 answers_stop call (Err refusal) stop err same stops = subst (StopsFor call) (sym same) stops
+
+-- a graph that answers a query, and whose text is written, writes an answer
+pub writes_answer : (names : List (List ℕ)) (graphs : List PropertyGraph) (asked : Option NodeQuery) (g : PropertyGraph) (out : Change) (result : Result (Unit {0}) Stop)
+    → IsAnswering names graphs asked (Some g) → WritesText out (printed g) result → WritesAnswer names graphs asked out result
+writes_answer names graphs None g out result answer w = absurd answer
+writes_answer names graphs (Some q) g out (Err OutOfMemory) answer w = w
+writes_answer names graphs (Some q) g out result answer w = (printed g, record { graph = g; answer = answer; written = refl }, w)
