@@ -64,6 +64,7 @@ module _ (query : List ℕ) (pairs : List Pair) where
           → IsTextOf (record { names = names; graphs = gs; query = q }) text → length text ≤ x
       within None q x text holds c d same is = absurd holds
       within (Some files) q x text holds c d same is = holds text (text_due files gs statements q text c d same is)
+
       by : (asked : Option NodeQuery) → node_query statements ≡ asked → HoldsAnswer room names gs asked
       by None same = tt
       by (Some q) same = λ x here text is. within told q x text (h x here) a b same is

@@ -74,14 +74,7 @@ fn run_query<F: Folder, S: Sink, L: Ledger>(
     let catalog = read_graphs(alloc, folder, pairs)?;
     let names = names_of(alloc, pairs)?;
     let checked = read_query(alloc, folder, query, &names)?;
-    let written = write_answer(
-        alloc,
-        checked.file(),
-        &names,
-        catalog.graphs(),
-        out,
-        steps,
-    );
+    let written = write_answer(alloc, checked.file(), &names, catalog.graphs(), out, steps);
     // The program ends with the answer, and the system takes the memory of the graphs back whole.
     let _kept = ManuallyDrop::new(catalog);
     written
