@@ -2,17 +2,16 @@
 use Rattle.std.specs.Prelude.{◌≡◌, List, [], ◌∷◌, map, Option, Some, None, ⊤}
 use Rattle.std.specs.List.{flat_map}
 use Rattle.gc_base.specs.declared.place.Sym.{Sym}
-use Rattle.gc_expr.specs.Trees.{TreeOf, AnExpr, RowOf, At, And, none, more}
+use Rattle.gc_expr.specs.Trees.{TreeOf, AnExpr, RowOf, At, And, none, more, renamed}
 use Rattle.gc_expr.specs.Views.{numbered_expr}
-use Rattle.gc_ast.specs.declared.query.Formula.{Formula, out-Formula}
-use Rattle.gc_ast.specs.declared.query.MatchBlock.{MatchBlock, out-MatchBlock}
-use Rattle.gc_ast.specs.declared.query.Query.{Query}
+use Rattle.gc_ast.specs.Trees as ast
+use Rattle.gc_ast.specs.Trees.{Tree, ABlock, AFormula}
 use Rattle.gc_values.specs.declared.reads.ReadUse.{ReadUse}
 use Rattle.gc_alg.specs.Instances.{variables_of}
 use Rattle.gc_alg.specs.declared.atom.Atom.{Atom}
 use Rattle.gc_alg.specs.declared.block.Block.{Block}
 use Rattle.gc_alg.specs.declared.block.Part.{Part}
-use Rattle.gc_lower.specs.Chains.{Scope, atoms_of}
+use Rattle.gc_lower.specs.Chains.{Scope, atoms_of, variable_of}
 
 -- the trees of a row
 abbrev pub listed : TreeOf Sym (RowOf AnExpr) → List (TreeOf Sym AnExpr)
@@ -36,23 +35,19 @@ reads_of_atom a = map (λ x. record { var = x; own = a.graph; walk = a.graph }) 
 abbrev pub reads_of : List Atom → List ReadUse
 reads_of atoms = flat_map reads_of_atom atoms
 
--- a condition whose EXISTS queries are these; one with EXISTS is not lowered yet
-abbrev pub unless_exists : List Query → TreeOf Sym AnExpr → Option (List (TreeOf Sym AnExpr))
-unless_exists [] e = Some (conjuncts_of e)
-unless_exists (q ∷ qs) e = None
-
--- the conjuncts of a WHERE, of which a block without one has none
-abbrev pub where_conjuncts : Option Formula → Option (List (TreeOf Sym AnExpr))
-where_conjuncts None = Some []
-where_conjuncts (Some f) = unless_exists (out-Formula f).exists.items (numbered_expr (out-Formula f).expr)
+-- the conjuncts of a WHERE, of which a block without one has none; one with EXISTS is not lowered yet
+abbrev pub where_conjuncts : Scope → Tree (ast.RowOf AFormula) → Option (List (TreeOf Sym AnExpr))
+where_conjuncts s ast.none = Some []
+where_conjuncts s (ast.more (ast.Formula e ast.none) formulas) = Some (conjuncts_of (renamed (variable_of s) e))
+where_conjuncts s formulas = None
 
 abbrev pub asked_with : Option (List Atom) → Option (List (TreeOf Sym AnExpr)) → Option Asked
 asked_with (Some atoms) (Some conjuncts) = Some (record { atoms = atoms; conjuncts = conjuncts })
 asked_with atoms conjuncts = None
 
 -- what a block asks for; none where it has what is not lowered yet, a path that is to be found or EXISTS
-abbrev pub asked : Scope → MatchBlock → Option Asked
-asked s b = asked_with (atoms_of s (out-MatchBlock b).patterns) (where_conjuncts (out-MatchBlock b).filter)
+abbrev pub asked : Scope → Tree ABlock → Option Asked
+asked s (ast.Block patterns filter) = asked_with (atoms_of s patterns) (where_conjuncts s filter)
 
 -- what a part asks for
 abbrev pub part_asked : Part → Asked

@@ -1,16 +1,10 @@
-//! What a block of a query file asks for: its patterns as atoms and the parts of its condition as
-//! conjuncts, in the order of the text. Others rely on `lower`. This crate knows of no rows and runs
-//! nothing.
+//! What a block of a query file asks for: its variables, its patterns as atoms and the parts of its
+//! condition as conjuncts, in the order of the text. Others rely on `variables` and `lower`. This crate
+//! knows of no rows and runs nothing.
 #![tactic(auto)]
 
-mod chains;
-mod conjuncts;
-mod elements;
 mod lowering;
-mod naming;
-mod reads;
-mod stop;
-#[cfg(test)]
-mod tests;
+mod variables;
 
 pub use lowering::lower;
+pub use variables::variables;

@@ -8,7 +8,7 @@ use Rattle.gc_json.specs.CanonicalText.{canonical_text}
 use Rattle.gc_json.specs.FileElements.{Seen}
 use Rattle.gc_json.specs.GraphFiles.{file_graph}
 use Rattle.gc_json.specs.declared.refusal.GraphRefusal.{GraphRefusal}
-use Rattle.gc_query.specs.NodeAnswers.{IsAnswer}
+use Rattle.gc_query.specs.NodeAnswers.{IsTheAnswer}
 use Rattle.gc_query.specs.NodeQueries.{NodeQuery, node_query}
 use Rattle.gcore.specs.QueryFiles.{statements_of}
 use Rattle.gcore.specs.declared.command.Command.{Command}
@@ -88,10 +88,10 @@ request names graphs query = Ok (record { names = names; graphs = graphs; query 
 unfoldable pub printed : PropertyGraph → List ℕ
 printed g = canonical_text g ++ 10 ∷ []
 
--- a text answers a request where it is that of a graph that does
+-- the text that answers a request is that of the graph that does, which is the only one
 pub record IsTextOf (r : Request) (text : List ℕ) : Type 0 where
   pub graph : PropertyGraph
-  pub answer : IsAnswer r.names r.graphs r.query graph
+  pub answer : IsTheAnswer r.names r.graphs r.query graph
   pub written : text ≡ printed graph
 
 -- first the graph files, then the query file
