@@ -18,8 +18,11 @@ pub record Scope : Type 0 where
   pub graphs : List (List ℕ)
 
 -- the variable of a name; a name that is no variable's, to which nothing is ever bound, has the number behind the last
+abbrev pub variable_among : Names → (name : List ℕ) → Sym
+variable_among variables name = record { 0 = unwrap_or (number_in variables name) (length variables) }
+
 abbrev pub variable_of : Scope → (name : List ℕ) → Sym
-variable_of s name = record { 0 = unwrap_or (number_in s.variables name) (length s.variables) }
+variable_of s name = variable_among s.variables name
 
 -- the hidden variable of a pattern without a name: it is numbered behind all names, by the pattern's token
 abbrev pub hidden : Scope → (token : ℕ) → Sym

@@ -1,3 +1,4 @@
 pub mod NodeAnswers
 pub mod NodeQueries
+pub mod Numberings
 pub mod OnlyBasics

@@ -7,14 +7,14 @@ ghost use Rattle.gc_query.specs.NodeQueries.{asked_in, basic_query, node_query};
 
 use crate::basics::only_basic;
 use crate::items::{is_nil, item_vars};
-use crate::nodes::are_nodes;
+use crate::nodes::{all_variables, are_nodes};
 use crate::plans::text_plan;
 use gc_alg::Block;
 use gc_ast::{Basic, File, MatchBlock, NameTable};
 use gc_base::{Memory, NameList, Steps, Sym};
 use gc_build::bound_nodes;
 use gc_exec::run;
-use gc_lower::lower;
+use gc_lower::{lower, variables};
 use gc_ppg::{Graph, GraphList};
 use gc_rows::{Row, Table};
 use std::alloc::Global;
@@ -71,7 +71,7 @@ fn basic_answer<L: Ledger>(
     }
 }
 
-// The graph of the nodes that a block binds to these variables.
+// The graph of the nodes that a block binds to the variables of these names, which are given by number.
 fn block_answer<L: Ledger>(
     session: &Session<'_>,
     table: &NameTable,
@@ -84,8 +84,10 @@ fn block_answer<L: Ledger>(
     if !are_nodes(session.alloc, table, main.patterns.as_slice(), vars)? {
         return Ok(None);
     }
-    match lower(session.alloc, table, session.names, main)? {
-        Some(block) => Ok(Some(matched(session, &block, vars, steps)?)),
+    let variables = variables(session.alloc, table, main)?;
+    let bound = all_variables(session.alloc, table, &variables, vars)?;
+    match lower(session.alloc, table, &variables, session.names, main)? {
+        Some(block) => Ok(Some(matched(session, &block, &bound, steps)?)),
         None => Ok(None),
     }
 }

@@ -1,29 +1,53 @@
-ghost use Rattle.std.specs.Prelude.{◌≡◌, map, IfOk, OnOk, ◌++◌};
-ghost use Rattle.std.specs.List.{list_all, list_any, IsDistinct};
+ghost use Rattle.std.specs.Prelude.{◌≡◌, ◌++◌, map, IfOk, OnOk};
+ghost use Rattle.std.specs.List.{list_all, list_any};
 ghost use Rattle.gc_expr.specs.Views.{Names, name_of};
 ghost use Rattle.gc_ast.specs.Names.{same_name};
 ghost use Rattle.gc_ast.specs.Trees.{row};
 ghost use Rattle.gc_ast.specs.PatternViews.{located_tree, pattern_tree};
 ghost use Rattle.gc_query.specs.NodeQueries.{chain_names, node_names, pattern_names};
+ghost use Rattle.gc_query.specs.Numberings.{variable_at};
 
 use gc_ast::{Located, NameTable, Pattern};
 use gc_base::{Memory, Name, Sym};
+use gc_lower::variable;
 use std::alloc::Global;
 
-/// Whether each variable has the name of a node pattern of these chains. Each name stands once in its
-/// table, so that variables of one name are one.
+/// Whether each variable has the name of a node pattern of these chains.
 pub fn are_nodes(
     alloc: Global,
     names: &NameTable,
     located: &[Located],
     vars: &[Sym],
 ) -> Result<bool, Memory>
-    ensures named { IfOk result (λ all. all ≡ list_all (λ name. list_any (same_name name) (node_names (row (map (located_tree names.now) located.now)))) (map (name_of names.now) vars.now)) }
-    ensures distinct { IsDistinct same_name names.now }
+    ensures { IfOk result (λ all. all ≡ list_all (λ name. list_any (same_name name) (node_names (row (map (located_tree names.now) located.now)))) (map (name_of names.now) vars.now)) }
 {
     let words = names.as_slice();
     let nodes = node_vars(alloc, located)?;
     Ok(are_among(words, &nodes, vars))
+}
+
+/// The variables of a block that have these names, which are given by their numbers in the file.
+pub fn all_variables(
+    alloc: Global,
+    names: &NameTable,
+    variables: &NameTable,
+    syms: &[Sym],
+) -> Result<Vec<Sym>, Memory>
+    ensures { IfOk result (λ all. all.items ≡ map (variable_at variables.now names.now) syms.now) }
+{
+    let mut all = Vec::with_capacity(alloc, syms.len())?;
+    for sym in syms {
+        all.push(variable_at(names, variables, *sym)?)?;
+    }
+    Ok(all)
+}
+
+// The variable of the name that a file has at a number.
+#[tactic(auto, unfolding(crate::specs::Numberings::variable_at))]
+fn variable_at(names: &NameTable, variables: &NameTable, sym: Sym) -> Result<Sym, Memory>
+    ensures { IfOk result (λ x. x ≡ variable_at variables.now names.now sym) }
+{
+    variable(names, variables, sym)
 }
 
 // Whether each variable has the name of one of others.
