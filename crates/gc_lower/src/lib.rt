@@ -3,8 +3,17 @@
 //! knows of no rows and runs nothing.
 #![tactic(auto)]
 
+mod chains;
+mod conjuncts;
+mod elements;
 mod lowering;
-mod variables;
+mod naming;
+mod numbering;
+mod reads;
+mod renumbering;
+mod stop;
+#[cfg(test)]
+mod tests;
 
 pub use lowering::lower;
-pub use variables::variables;
+pub use numbering::variables;
