@@ -1,4 +1,5 @@
 pub mod Asked
 pub mod Chains
+pub mod Meaning
 pub mod Outcomes
 pub mod Variables

@@ -1,4 +1,7 @@
-ghost use Rattle.std.specs.Prelude.{None, Some};
+ghost use Rattle.std.specs.Prelude.{None, Some, map};
+ghost use Rattle.gc_expr.specs.Views.{name_of};
+ghost use Rattle.gc_ast.specs.PatternViews.{body_by, located_tree, pattern_tree};
+ghost use Rattle.gc_ast.specs.Trees.{row};
 ghost use Rattle.gc_lower.specs.Chains.{atoms_of, both_lists, chain_atoms, link_atoms, part_atoms, path_atoms};
 ghost use Rattle.gc_lower.specs.Outcomes.{Gives};
 
@@ -23,7 +26,7 @@ pub(crate) fn add_chains(
     naming: &Naming<'_>,
     chains: &LocatedList,
 ) -> Result<(), Stop>
-    ensures { Gives (λ _. atoms.new.items) (both_lists (Some atoms.old.items) (atoms_of naming.now chains.now)) result }
+    ensures { Gives (λ _. atoms.new.items) (both_lists (Some atoms.old.items) (atoms_of naming.now.scope (row (map (located_tree naming.now.names) chains.now)))) result }
 {
     for located in chains.as_slice() {
         let graph = naming.graph_of(&located.on)?;
@@ -39,7 +42,7 @@ fn add_chain(
     graph: u32,
     parts: &PatternList,
 ) -> Result<(), Stop>
-    ensures { Gives (λ _. atoms.new.items) (both_lists (Some atoms.old.items) (chain_atoms naming.now graph None parts.now)) result }
+    ensures { Gives (λ _. atoms.new.items) (both_lists (Some atoms.old.items) (chain_atoms naming.now.scope graph None (row (map (pattern_tree naming.now.names) parts.now)))) result }
 {
     let parts = parts.as_slice();
     let mut left = None;
@@ -58,7 +61,7 @@ fn add_part(
     spot: Spot,
     part: &Pattern,
 ) -> Result<(), Stop>
-    ensures { Gives (λ _. atoms.new.items) (both_lists (Some atoms.old.items) (part_atoms naming.now spot.graph spot.left spot.right part.now)) result }
+    ensures { Gives (λ _. atoms.new.items) (both_lists (Some atoms.old.items) (part_atoms naming.now.scope spot.graph spot.left spot.right (pattern_tree naming.now.names part.now))) result }
 {
     match part {
         Pattern::Node(element) => {
@@ -76,7 +79,7 @@ fn add_link(
     spot: Spot,
     part: &Pattern,
 ) -> Result<(), Stop>
-    ensures { Gives (λ _. atoms.new.items) (both_lists (Some atoms.old.items) (link_atoms naming.now spot.graph spot.left spot.right part.now)) result }
+    ensures { Gives (λ _. atoms.new.items) (both_lists (Some atoms.old.items) (link_atoms naming.now.scope spot.graph spot.left spot.right (pattern_tree naming.now.names part.now))) result }
 {
     let Some(left) = spot.left else {
         return Err(Stop::Unlowered);
@@ -95,22 +98,28 @@ fn add_link(
             add_edge(atoms, naming, link, *way, element)?;
             Ok(())
         }
-        Pattern::Path { body, .. } => add_path(atoms, link, body),
+        Pattern::Path { body, .. } => add_path(atoms, naming, link, body),
     }
 }
 
 // Puts the atom of a stored path pattern behind others.
-fn add_path(atoms: &mut AtomList, link: Link, body: &PathBody) -> Result<(), Stop>
-    ensures { Gives (λ _. atoms.new.items) (both_lists (Some atoms.old.items) (path_atoms link.graph link.left link.right body.now)) result }
+fn add_path(
+    atoms: &mut AtomList,
+    naming: &Naming<'_>,
+    link: Link,
+    body: &PathBody,
+) -> Result<(), Stop>
+    ensures { Gives (λ _. atoms.new.items) (both_lists (Some atoms.old.items) (path_atoms naming.now.scope link.graph link.left link.right (body_by (name_of naming.now.names) body.now))) result }
 {
     match body {
         PathBody::Stored { name, labels } => {
+            let p = naming.number(name.sym)?;
             let labels = labels.copy()?;
             atoms.push(Atom {
                 graph: link.graph,
                 what: AtomWhat::Stored {
                     x: link.left,
-                    p: name.sym,
+                    p,
                     y: link.right,
                     labels,
                 },

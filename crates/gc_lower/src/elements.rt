@@ -1,9 +1,12 @@
-ghost use Rattle.std.specs.Prelude.{◌≡◌, ◌++◌, map, OnOk};
-ghost use Rattle.gc_lower.specs.Chains.{edge_atoms, node_atoms, property_atom};
+ghost use Rattle.std.specs.Prelude.{◌≡◌, ◌++◌, ◌∷◌, [], map, OnOk};
+ghost use Rattle.gc_expr.specs.Views.{name_of};
+ghost use Rattle.gc_ast.specs.PatternViews.{element_by, property_use_by};
+ghost use Rattle.gc_ast.specs.Trees.{row};
+ghost use Rattle.gc_lower.specs.Chains.{edge_atoms, node_atoms, property_atom, property_atoms};
 
 use crate::naming::Naming;
 use gc_alg::{Atom, AtomList, AtomWhat};
-use gc_ast::{Element, PropertyUseList};
+use gc_ast::{Element, PropertyUse, PropertyUseList};
 use gc_base::{Direction, Duplicate, Memory, Sym};
 use gc_ppg::Kind;
 
@@ -22,7 +25,7 @@ pub(crate) fn add_node(
     graph: u32,
     element: &Element,
 ) -> Result<(), Memory>
-    ensures { OnOk result (atoms.new.items ≡ atoms.old.items ++ node_atoms naming.now graph element.now) }
+    ensures { OnOk result (atoms.new.items ≡ atoms.old.items ++ node_atoms naming.now.scope graph (element_by (name_of naming.now.names) element.now)) }
 {
     let x = naming.variable(element)?;
     let labels = element.labels.copy()?;
@@ -30,7 +33,7 @@ pub(crate) fn add_node(
         graph,
         what: AtomWhat::Node { x, labels },
     })?;
-    add_properties(atoms, graph, x, Kind::Node, &element.properties)
+    add_properties(atoms, naming, graph, x, Kind::Node, &element.properties)
 }
 
 /// Puts the atoms of an edge pattern behind others.
@@ -41,7 +44,7 @@ pub(crate) fn add_edge(
     way: Direction,
     element: &Element,
 ) -> Result<(), Memory>
-    ensures { OnOk result (atoms.new.items ≡ atoms.old.items ++ edge_atoms naming.now link.graph link.left link.right way element.now) }
+    ensures { OnOk result (atoms.new.items ≡ atoms.old.items ++ edge_atoms naming.now.scope link.graph link.left link.right way (element_by (name_of naming.now.names) element.now)) }
 {
     let e = naming.variable(element)?;
     let labels = element.labels.copy()?;
@@ -55,30 +58,54 @@ pub(crate) fn add_edge(
             labels,
         },
     })?;
-    add_properties(atoms, link.graph, e, Kind::Edge, &element.properties)
+    add_properties(
+        atoms,
+        naming,
+        link.graph,
+        e,
+        Kind::Edge,
+        &element.properties,
+    )
 }
 
 // Puts the atoms of the properties of an element behind others.
 fn add_properties(
     atoms: &mut AtomList,
+    naming: &Naming<'_>,
     graph: u32,
     x: Sym,
     kind: Kind,
     properties: &PropertyUseList,
 ) -> Result<(), Memory>
-    ensures { OnOk result (atoms.new.items ≡ atoms.old.items ++ map (property_atom graph x kind) properties.now) }
+    ensures { OnOk result (atoms.new.items ≡ atoms.old.items ++ property_atoms naming.now.scope graph x kind (row (map (property_use_by (name_of naming.now.names)) properties.now))) }
 {
     for asked in properties.as_slice() {
-        let name = asked.property.copy()?;
-        atoms.push(Atom {
-            graph,
-            what: AtomWhat::Property {
-                x,
-                kind,
-                name,
-                value: asked.value.sym,
-            },
-        })?;
+        add_property(atoms, naming, graph, x, kind, asked)?;
     }
+    Ok(())
+}
+
+// Puts the atom of a property of an element behind others.
+fn add_property(
+    atoms: &mut AtomList,
+    naming: &Naming<'_>,
+    graph: u32,
+    x: Sym,
+    kind: Kind,
+    asked: &PropertyUse,
+) -> Result<(), Memory>
+    ensures { OnOk result (atoms.new.items ≡ atoms.old.items ++ property_atom naming.now.scope graph x kind (property_use_by (name_of naming.now.names) asked.now) ∷ []) }
+{
+    let name = asked.property.copy()?;
+    let value = naming.number(asked.value.sym)?;
+    atoms.push(Atom {
+        graph,
+        what: AtomWhat::Property {
+            x,
+            kind,
+            name,
+            value,
+        },
+    })?;
     Ok(())
 }

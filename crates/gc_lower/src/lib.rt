@@ -1,10 +1,19 @@
 //! What a block of a query file asks for: its variables, its patterns as atoms and the parts of its
-//! condition as conjuncts, in the order of the text. Others rely on `variables` and `lower`. This crate
+//! condition as conjuncts, in the order of the text. Others rely on `variables`, `variable` and `lower`. This crate
 //! knows of no rows and runs nothing.
 #![tactic(auto)]
 
+mod chains;
+mod conjuncts;
+mod elements;
 mod lowering;
-mod variables;
+mod naming;
+mod numbering;
+mod reads;
+mod renumbering;
+mod stop;
+#[cfg(test)]
+mod tests;
 
 pub use lowering::lower;
-pub use variables::variables;
+pub use numbering::{variable, variables};

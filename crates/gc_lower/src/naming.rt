@@ -3,31 +3,38 @@ ghost use Rattle.std.specs.Option.{unwrap_or};
 ghost use Rattle.gc_ast.specs.Names.{number_in};
 ghost use Rattle.gc_expr.specs.Views.{name_of};
 
+use crate::numbering::variable;
 use gc_ast::{Element, NameTable, Pattern};
 use gc_base::{Memory, Name, NameAt, NameList, Sym};
 use std::marker::Model;
 
-/// What names stand for: the names of a file by number, and the names of the graphs by number.
+/// What names stand for: the names of a file by number, and the variables and the names of the graphs,
+/// each by number.
 #[derive(Drop)]
 pub(crate) struct Naming<'a> {
     pub names: &'a NameTable,
+    pub variables: &'a NameTable,
     pub graphs: &'a NameList,
 }
 
 impl<'a> Model for Naming<'a> {
-    ghost use Rattle.gc_lower.specs.Chains.{Scope};
+    ghost use Rattle.gc_lower.specs.Meaning.{Meaning};
 
-    ghost Value = { Scope };
+    ghost Value = { Meaning };
 
-    ghost view = { λ n. record { names = n.names.now; graphs = n.graphs.now } };
+    ghost view = { λ n. record { names = n.names.now; scope = record { variables = n.variables.now; graphs = n.graphs.now } } };
 }
 
 impl Naming<'_> {
-    ghost use Rattle.gc_lower.specs.Chains.{graph_of, graph_named, variable, node_variable, next_variable};
+    ghost use Rattle.std.specs.Prelude.{map};
+    ghost use Rattle.gc_ast.specs.PatternViews.{element_by, named, named_if, pattern_tree};
+    ghost use Rattle.gc_ast.specs.Trees.{row};
+    ghost use Rattle.gc_lower.specs.Chains.{graph_of, graph_named, hidden, variable, variable_of, node_variable, next_variable};
+    ghost use Rattle.gc_lower.specs.Meaning.{variable_in};
 
     /// The number of the graph that a chain stands on.
     pub(crate) fn graph_of(&self, on: &Option<NameAt>) -> Result<u32, Memory>
-        ensures { IfOk result (λ graph. graph ≡ graph_of self.now on.now) }
+        ensures { IfOk result (λ graph. graph ≡ graph_of self.now.scope (named_if self.now.names on.now)) }
     {
         match on {
             None => Ok(0),
@@ -37,7 +44,7 @@ impl Naming<'_> {
 
     // The number of the graph of a name; one that is no graph's has the number behind the last.
     fn graph_named(&self, name: NameAt) -> Result<u32, Memory>
-        ensures { IfOk result (λ graph. graph ≡ graph_named self.now name) }
+        ensures { IfOk result (λ graph. graph ≡ graph_named self.now.scope (named self.now.names name)) }
     {
         let number = place_of(self.graphs, bytes_of(self.names, name.sym));
         match u32::try_from(number) {
@@ -46,22 +53,39 @@ impl Naming<'_> {
         }
     }
 
+    /// The variable of a number of the file; a number that the file lacks is want of memory.
+    pub(crate) fn number(&self, sym: Sym) -> Result<Sym, Memory>
+        ensures { IfOk result (λ x. x ≡ variable_in self.now sym) }
+    {
+        variable(self.names, self.variables, sym)
+    }
+
+    // The hidden variable of a pattern without a name.
+    fn hidden(&self, token: u32) -> Result<Sym, Memory>
+        ensures { IfOk result (λ x. x ≡ hidden self.now.scope token) }
+    {
+        let Some(behind) = self.variables.len().checked_add(1) else {
+            return Err(Memory);
+        };
+        match behind.checked_add(token) {
+            None => Err(Memory),
+            Some(number) => Ok(Sym(number)),
+        }
+    }
+
     /// The variable of an element: that of its name, or a hidden one.
     pub(crate) fn variable(&self, element: &Element) -> Result<Sym, Memory>
-        ensures { IfOk result (λ x. x ≡ variable self.now element.now) }
+        ensures { IfOk result (λ x. x ≡ variable self.now.scope (element_by (name_of self.now.names) element.now)) }
     {
-        if let Some(name) = element.name {
-            return Ok(name.sym);
-        }
-        match self.names.len().checked_add(element.token) {
-            Some(number) => Ok(Sym(number)),
-            None => Err(Memory),
+        match element.name {
+            None => self.hidden(element.token),
+            Some(name) => self.number(name.sym),
         }
     }
 
     /// The variable of a part of a chain, if that is a node.
     pub(crate) fn node_variable(&self, part: &Pattern) -> Result<Option<Sym>, Memory>
-        ensures { IfOk result (λ x. x ≡ node_variable self.now part.now) }
+        ensures { IfOk result (λ x. x ≡ node_variable self.now.scope (pattern_tree self.now.names part.now)) }
     {
         match part {
             Pattern::Node(element) => Ok(Some(self.variable(element)?)),
@@ -71,7 +95,7 @@ impl Naming<'_> {
 
     /// The variable of the first of the parts, if that is a node.
     pub(crate) fn next_variable(&self, parts: &[Pattern]) -> Result<Option<Sym>, Memory>
-        ensures { IfOk result (λ x. x ≡ next_variable self.now parts.now) }
+        ensures { IfOk result (λ x. x ≡ next_variable self.now.scope (row (map (pattern_tree self.now.names) parts.now))) }
     {
         match parts.first() {
             None => Ok(None),

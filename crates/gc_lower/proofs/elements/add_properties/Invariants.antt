@@ -1,7 +1,12 @@
 use Rattle.std.proofs.Common.{◌≡◌, ◌++◌, drop, map}
-use Rattle.gc_lower.specs.Chains.{property_atom}
+use Rattle.gc_expr.specs.Views.{name_of}
+use Rattle.gc_ast.specs.PatternViews.{property_use_by}
+use Rattle.gc_ast.specs.Trees.{row}
+use Rattle.gc_lower.specs.Chains.{property_atoms}
 use Rattle.gc_lower.proofs.elements.add_properties.Given as goal
 
 -- the atoms so far and those of the rest are those of all
 abbrev pub invariant-loop-asked : goal.invariant-loop-asked
-invariant-loop-asked l = l.atoms.items ++ map (property_atom l.graph l.x l.kind) (drop l.asked-index l.asked-items) ≡ l.initial.atoms.items ++ map (property_atom l.graph l.x l.kind) l.asked-items
+invariant-loop-asked l =
+    l.atoms.items ++ property_atoms l.naming.scope l.graph l.x l.kind (row (map (property_use_by (name_of l.naming.names)) (drop l.asked-index l.asked-items)))
+    ≡ l.initial.atoms.items ++ property_atoms l.naming.scope l.graph l.x l.kind (row (map (property_use_by (name_of l.naming.names)) l.asked-items))
