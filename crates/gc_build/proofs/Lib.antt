@@ -1,5 +1,6 @@
-pub mod Absorbed
 pub mod Above
+pub mod Absorbed
+pub mod FromNothing
 pub mod Lookups
 pub mod Members
 pub mod Once

@@ -2,12 +2,12 @@ ghost use Rattle.std.specs.Prelude.{◌≡◌, ◌==◌, map, IfOk, OnOk};
 ghost use Rattle.std.specs.List.{AllByRecursion, find};
 ghost use Rattle.std.specs.Option.{option_copied};
 ghost use Rattle.gc_spec.specs.PropertyGraph.{is_among};
-ghost use Rattle.gc_sets.specs.Descriptions.{united_node};
+ghost use Rattle.gc_sets.specs.Descriptions.{united_labels, united_node, united_properties};
 ghost use Rattle.gc_build.specs.BoundNodes.{Bindings, node_in};
 ghost use Rattle.gc_build.specs.Readings.{IsReading, read_graph, told, told_by, with_told};
 
 use crate::ids::{ascending, listed_ids};
-use gc_base::{Id, LabelSet, Memory, Properties, Steps, Sym};
+use gc_base::{Duplicate, Id, LabelSet, Memory, Properties, Steps, Sym};
 use gc_ppg::{Graph, GraphList, NodeInfo};
 use gc_rows::Row;
 use gc_sets::{unite_labels, unite_properties};
@@ -170,7 +170,35 @@ fn find_in<'a, L: Ledger>(
 fn unite(node: &mut NodeInfo, more: &NodeInfo) -> Result<(), Memory>
     ensures { OnOk result (node.new ≡ united_node node.old more.now) }
 {
-    unite_labels(&mut node.labels, &more.labels)?;
-    unite_properties(&mut node.properties, &more.properties)?;
+    add_labels(&mut node.labels, &more.labels)?;
+    add_properties(&mut node.properties, &more.properties)?;
     Ok(())
+}
+
+// Adds the labels of another set. To none it adds them as they stand.
+#[tactic(auto, using(crate::proofs::FromNothing::labels_alone))]
+fn add_labels(labels: &mut LabelSet, more: &LabelSet) -> Result<(), Memory>
+    ensures { OnOk result (labels.new ≡ united_labels labels.old more.now) }
+{
+    if labels.len() == 0 {
+        let _ascend = more.as_slice();
+        *labels = more.copy()?;
+        Ok(())
+    } else {
+        unite_labels(labels, more)
+    }
+}
+
+// Adds the values of other properties. To none it adds them as they stand.
+#[tactic(auto, using(crate::proofs::FromNothing::properties_alone))]
+fn add_properties(properties: &mut Properties, more: &Properties) -> Result<(), Memory>
+    ensures { OnOk result (properties.new ≡ united_properties properties.old more.now) }
+{
+    if properties.len() == 0 {
+        let _ascend = more.as_slice();
+        *properties = more.copy()?;
+        Ok(())
+    } else {
+        unite_properties(properties, more)
+    }
 }
