@@ -30,53 +30,41 @@ fn renumbered_node(naming: &Naming<'_>, node: &ExprNode) -> Result<ExprNode, Mem
         ExprNode::Text(text) => Ok(ExprNode::Text(text.copy()?)),
         ExprNode::Truth(truth) => Ok(ExprNode::Truth(*truth)),
         ExprNode::Var(var) => Ok(ExprNode::Var(naming.number(*var)?)),
-        ExprNode::Property(of, key) => {
-            Ok(ExprNode::Property(renumbered_boxed(naming, of)?, key.copy()?))
-        }
+        ExprNode::Property(of, key) => { Ok(ExprNode::Property(boxed(naming, of)?, key.copy()?)) }
         ExprNode::Labelled(of, label) => {
-            Ok(ExprNode::Labelled(renumbered_boxed(naming, of)?, label.copy()?))
+            Ok(ExprNode::Labelled(boxed(naming, of)?, label.copy()?))
         }
         ExprNode::NodeAt(path, at) => {
-            Ok(ExprNode::NodeAt(naming.number(*path)?, renumbered_boxed(naming, at)?))
+            Ok(ExprNode::NodeAt(naming.number(*path)?, boxed(naming, at)?))
         }
         ExprNode::EdgeAt(path, at) => {
-            Ok(ExprNode::EdgeAt(naming.number(*path)?, renumbered_boxed(naming, at)?))
+            Ok(ExprNode::EdgeAt(naming.number(*path)?, boxed(naming, at)?))
         }
         ExprNode::Length(path) => Ok(ExprNode::Length(naming.number(*path)?)),
         ExprNode::Aggregate(fold, operand) => match operand {
             None => Ok(ExprNode::Aggregate(*fold, None)),
-            Some(of) => Ok(ExprNode::Aggregate(*fold, Some(renumbered_boxed(naming, of)?))),
+            Some(of) => Ok(ExprNode::Aggregate(*fold, Some(boxed(naming, of)?))),
         },
-        ExprNode::Negate(of) => Ok(ExprNode::Negate(renumbered_boxed(naming, of)?)),
+        ExprNode::Negate(of) => Ok(ExprNode::Negate(boxed(naming, of)?)),
         ExprNode::Sum(first, rest) => {
-            Ok(ExprNode::Sum(
-                renumbered_boxed(naming, first)?,
-                renumbered_sum(naming, rest)?,
-            ))
+            Ok(ExprNode::Sum(boxed(naming, first)?, sum_parts(naming, rest)?))
         }
         ExprNode::Product(first, rest) => {
-            Ok(ExprNode::Product(
-                renumbered_boxed(naming, first)?,
-                renumbered_product(naming, rest)?,
-            ))
+            Ok(ExprNode::Product(boxed(naming, first)?, product_parts(naming, rest)?))
         }
         ExprNode::Compare(how, left, right) => {
-            Ok(ExprNode::Compare(
-                *how,
-                renumbered_boxed(naming, left)?,
-                renumbered_boxed(naming, right)?,
-            ))
+            Ok(ExprNode::Compare(*how, boxed(naming, left)?, boxed(naming, right)?))
         }
-        ExprNode::Not(of) => Ok(ExprNode::Not(renumbered_boxed(naming, of)?)),
-        ExprNode::And(parts) => Ok(ExprNode::And(renumbered_parts(naming, parts)?)),
-        ExprNode::Or(parts) => Ok(ExprNode::Or(renumbered_parts(naming, parts)?)),
+        ExprNode::Not(of) => Ok(ExprNode::Not(boxed(naming, of)?)),
+        ExprNode::And(parts) => Ok(ExprNode::And(listed(naming, parts)?)),
+        ExprNode::Or(parts) => Ok(ExprNode::Or(listed(naming, parts)?)),
         ExprNode::Exists(number) => Ok(ExprNode::Exists(*number)),
     }
 }
 
 #[tactic(auto, unfolding(gc_expr::specs::Views::numbered_expr))]
 #[cycle(renumbered)]
-fn renumbered_boxed(naming: &Naming<'_>, expr: &Box<Expr>) -> Result<Box<Expr>, Memory>
+fn boxed(naming: &Naming<'_>, expr: &Box<Expr>) -> Result<Box<Expr>, Memory>
     ensures { IfOk result (λ made. numbered_expr made.value ≡ renamed (variable_in naming.now) (numbered_expr expr.now.value)) }
 {
     let alloc = *Box::allocator(expr);
@@ -84,7 +72,7 @@ fn renumbered_boxed(naming: &Naming<'_>, expr: &Box<Expr>) -> Result<Box<Expr>, 
 }
 
 #[cycle(renumbered)]
-fn renumbered_parts(naming: &Naming<'_>, parts: &ExprList) -> Result<ExprList, Memory>
+fn listed(naming: &Naming<'_>, parts: &ExprList) -> Result<ExprList, Memory>
     ensures { IfOk result (λ made. map numbered_expr made.items ≡ map (λ e. renamed (variable_in naming.now) (numbered_expr e)) parts.now.items) }
 {
     let mut made = Vec::with_capacity(*parts.allocator(), parts.len())?;
@@ -96,7 +84,7 @@ fn renumbered_parts(naming: &Naming<'_>, parts: &ExprList) -> Result<ExprList, M
 
 #[tactic(auto, unfolding(gc_expr::specs::Trees::renamed, gc_expr::specs::Views::numbered_expr, gc_expr::specs::Views::numbered_sum_part))]
 #[cycle(renumbered)]
-fn renumbered_sum(naming: &Naming<'_>, parts: &SumPartList) -> Result<SumPartList, Memory>
+fn sum_parts(naming: &Naming<'_>, parts: &SumPartList) -> Result<SumPartList, Memory>
     ensures { IfOk result (λ made. map numbered_sum_part made.items ≡ map (λ p. renamed (variable_in naming.now) (numbered_sum_part p)) parts.now.items) }
 {
     let mut made = Vec::with_capacity(*parts.allocator(), parts.len())?;
@@ -111,10 +99,7 @@ fn renumbered_sum(naming: &Naming<'_>, parts: &SumPartList) -> Result<SumPartLis
 
 #[tactic(auto, unfolding(gc_expr::specs::Trees::renamed, gc_expr::specs::Views::numbered_expr, gc_expr::specs::Views::numbered_product_part))]
 #[cycle(renumbered)]
-fn renumbered_product(
-    naming: &Naming<'_>,
-    parts: &ProductPartList,
-) -> Result<ProductPartList, Memory>
+fn product_parts(naming: &Naming<'_>, parts: &ProductPartList) -> Result<ProductPartList, Memory>
     ensures { IfOk result (λ made. map numbered_product_part made.items ≡ map (λ p. renamed (variable_in naming.now) (numbered_product_part p)) parts.now.items) }
 {
     let mut made = Vec::with_capacity(*parts.allocator(), parts.len())?;
