@@ -183,6 +183,6 @@ answers_stop call (Err refusal) stop err same stops = subst (StopsFor call) (sym
 -- a graph that answers a query, and whose text is written, writes an answer
 pub writes_answer : (names : List (List ℕ)) (graphs : List PropertyGraph) (asked : Option NodeQuery) (g : PropertyGraph) (out : Change) (result : Result (Unit {0}) Stop)
     → IsAnswering names graphs asked (Some g) → WritesText out (printed g) result → WritesAnswer names graphs asked out result
-writes_answer names graphs None g out result answer w = absurd answer
-writes_answer names graphs (Some q) g out (Err OutOfMemory) answer w = w
-writes_answer names graphs (Some q) g out result answer w = (printed g, record { graph = g; answer = answer; written = refl }, w)
+writes_answer words graphs None g out result answer w = absurd answer
+writes_answer words graphs (Some q) g out (Err OutOfMemory) answer w = w
+writes_answer words graphs (Some q) g out result answer w = (printed g, record { graph = g; answer = answer; written = refl }, w)
