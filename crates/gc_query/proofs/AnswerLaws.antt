@@ -24,7 +24,8 @@ use Rattle.gc_query.specs.NodeQueries.{NodeQuery, asked_if, asked_in, basic_quer
 use Rattle.gc_query.specs.Numberings.{variable_at}
 use Rattle.gc_query.proofs.MatchedLaws.{asks_where_matched}
 use Rattle.gc_query.proofs.OneAnswer.{one_answer}
-use Rattle.gc_query.proofs.TreeParts.{basic_parts, block_parts}
+use Rattle.gc_lower.proofs.TreeParts.{block_parts}
+use Rattle.gc_query.proofs.TreeParts.{basic_parts}
 
 -- there is no answer to what is not built
 pub unanswered : (graph_names : List (List ℕ)) (graphs : List PropertyGraph) (query : Option NodeQuery) → query ≡ None → IsAnswering graph_names graphs query None

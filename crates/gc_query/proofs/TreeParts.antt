@@ -7,11 +7,9 @@ use Rattle.gc_ast.specs.declared.construct.Change.{Change}
 use Rattle.gc_ast.specs.declared.construct.ConstructPart.{ConstructPart}
 use Rattle.gc_ast.specs.declared.query.Basic.{Basic, out-Basic}
 use Rattle.gc_ast.specs.declared.query.Formula.{Formula}
-use Rattle.gc_ast.specs.declared.query.MatchBlock.{MatchBlock, out-MatchBlock}
 use Rattle.gc_expr.specs.Views.{Names}
 use Rattle.gc_ast.specs.Trees as tree
 use Rattle.gc_ast.specs.Trees.{row, maybe}
-use Rattle.gc_ast.specs.PatternViews.{located_tree}
 use Rattle.gc_ast.specs.QueryViews.{item_by, part_by, change_by, formula_by, block_by, basic_by, optional_by, item_tree, part_tree, change_tree, formula_tree, block_tree, basic_tree, optional_tree}
 
 pub chain_tree : (names : Names) (parts : Vec ConstructPart Global) (changes : Vec Change Global) (condition : Option Formula)
@@ -19,12 +17,6 @@ pub chain_tree : (names : Names) (parts : Vec ConstructPart Global) (changes : V
     ≡ tree.ChainItem (row (map (part_tree names) parts.items)) (row (map (change_tree names) changes.items)) (maybe (option_map (formula_tree names) condition))
 unfolding item_by part_by change_by formula_by
 chain_tree names parts changes condition = search (rules, the_lemmas)
-
-pub block_parts : (names : Names) (block : MatchBlock)
-    → block_tree names block
-    ≡ tree.Block (row (map (located_tree names) (out-MatchBlock block).patterns)) (maybe (option_map (formula_tree names) (out-MatchBlock block).filter))
-unfolding block_by formula_by
-block_parts names block = search (rules, the_lemmas)
 
 pub basic_parts : (names : Names) (basic : Basic)
     → basic_tree names basic

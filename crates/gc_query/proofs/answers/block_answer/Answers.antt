@@ -9,9 +9,9 @@ returns-then-not-branch g c =
 pub returns-in-Some : goal.returns-in-Some
 returns-in-Some g c =
     answered c.args.session.now.names.now c.args.session.now.graphs.now c.args.table.now c.args.main.now c.args.vars.now c.in_ok-variables.variables c.in-Some.block c.in_ok-bound.bound.items
-    c.in_ok-matched-in-Some.field-0 (search rules) 
+    c.in_ok-matched-in-Some.field-0 (search rules)
     (are_all_named c.args.session.now.names.now c.args.session.now.graphs.now c.args.table.now c.args.main.now c.args.vars.now c.in_ok-are_nodes.field-0 c.as_slice.result.now (search rules) c.in_ok-are_nodes.ensures (search rules))
-     (search rules) (search rules) (search rules)
+    (search rules) (search rules) (search rules)
 
 pub returns : goal.returns
 returns g c =
