@@ -1,5 +1,5 @@
 -- How a run ends, once its graphs are read.
-use Rattle.std.proofs.Common.{◌≡◌, ℕ, ◌≤◌, List, [], ◌∷◌, length, Option, None, Some, Result, Ok, Err, ap, ◌∙◌, subst, sym, refl, arith, inl, inr}
+use Rattle.std.proofs.Common.{◌≡◌, ℕ, ◌≤◌, List, [], length, Option, None, Some, Result, Ok, Err, ap, ◌∙◌, subst, sym, refl, arith, inl, inr}
 use Rattle.std.specs.Result.{IsErr, IsErrAnd}
 use Rattle.std.specs.Prelude.{IfSome, IsOk, IsSomeAnd, ◌⊎◌}
 use Rattle.gc_base.specs.Faults.{Rose}
@@ -8,7 +8,7 @@ use Rattle.gc_ast.specs.Trees.{Tree, AStatement}
 use Rattle.gc_spec.specs.PropertyGraph.{PropertyGraph}
 use Rattle.gc_query.specs.NodeAnswers.{IsAnswering}
 use Rattle.gc_query.specs.NodeQueries.{NodeQuery, node_query}
-use Rattle.gcore.specs.Outcomes.{IsTextDue, IsTextOf, Request, built, file_due, graph_names, graphs_due, outcome, printed, query_due, query_limit, request, statements_due, then_due}
+use Rattle.gcore.specs.Outcomes.{IsTextDue, IsTextOf, built, file_due, graph_names, graphs_due, outcome, printed, query_due, query_limit, request, statements_due, then_due}
 use Rattle.gcore.specs.Endings.{Answers, Call, Change, GainsDuePrefix, GainsNothing, HoldsAnswer, HoldsText, StopsFor, WritesAnswer, WritesText}
 use Rattle.gcore.specs.GraphSteps.{StopsReadingGraphs}
 use Rattle.gcore.specs.QueryFiles.{statements_of}
