@@ -8,6 +8,8 @@ mod along;
 mod compared;
 mod context;
 mod described;
+#[cfg(test)]
+mod example;
 mod folded;
 mod numbers;
 mod reads;
