@@ -1,0 +1,4 @@
+pub mod Aggregates
+pub mod Assigned
+pub mod Described
+pub mod Faults

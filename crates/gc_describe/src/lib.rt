@@ -1,0 +1,10 @@
+//! The labels and properties of the elements that a CONSTRUCT makes. Others rely on one call:
+//! `describe` gives them for each element, or the first assignment that is undefined on a row, exactly
+//! as the definition says. This crate groups no rows and knows of no graph that is made.
+#![tactic(auto)]
+
+mod described;
+mod fault;
+
+pub use described::{Described, DescribedList, Description, DescriptionList};
+pub use fault::{Fault, Refusal};

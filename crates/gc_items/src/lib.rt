@@ -1,0 +1,2 @@
+//! What the items of a CONSTRUCT ask to be made.
+#![tactic(auto)]

@@ -1,0 +1,11 @@
+//! Which rows make one element of a variable of a CONSTRUCT, and how new elements are numbered. Others
+//! rely on one call: `number` gives the elements of each variable with their rows, and for each row the
+//! number of its element, exactly as the definition says. This crate makes no identity and reads no
+//! assignment.
+#![tactic(auto)]
+
+mod numbered;
+mod setting;
+
+pub use numbered::{Element, Numbered, Numbering};
+pub use setting::Setting;

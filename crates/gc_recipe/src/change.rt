@@ -1,0 +1,34 @@
+use gc_base::{Name, Sequence, Sym};
+use gc_expr::Expr;
+
+/// A property that a variable is given. Its token is the property's word.
+#[derive(Debug, Drop)]
+pub struct Assignment {
+    pub var: Sym,
+    pub token: u32,
+    pub property: Name,
+    pub value: Expr,
+}
+
+/// A label of a variable.
+#[derive(Debug, Drop)]
+pub struct LabelOf {
+    pub var: Sym,
+    pub label: Name,
+}
+
+/// A property of a variable.
+#[derive(Debug, Drop)]
+pub struct PropertyOf {
+    pub var: Sym,
+    pub property: Name,
+}
+
+/// Assignments, in the order of the text.
+pub type AssignmentList = Vec<Assignment>;
+
+/// Labels of variables.
+pub type LabelOfList = Sequence<LabelOf>;
+
+/// Properties of variables.
+pub type PropertyOfList = Sequence<PropertyOf>;
