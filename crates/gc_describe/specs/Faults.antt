@@ -1,6 +1,7 @@
 -- The first assignment that is undefined on a row of a group.
-use Rattle.std.specs.Prelude.{ℕ, ◌==◌, ◌<?◌, List, [], ◌∷◌, fold, Option, Some, None, if◌then◌else◌}
+use Rattle.std.specs.Prelude.{ℕ, ◌==◌, List, [], ◌∷◌, fold, Option, Some, None, if◌then◌else◌}
 use Rattle.std.specs.List.{find, flat_map}
+use Rattle.std.specs.Ordering.{is_lt, nat_cmp}
 use Rattle.gc_base.specs.declared.place.Sym.{Sym}
 use Rattle.gc_numbering.specs.Settings.{Setting}
 use Rattle.gc_numbering.specs.declared.numbered.Element.{Element}
@@ -34,7 +35,7 @@ faults_in s a e = faults_among a e.group.rows (assigned_values s a e.group.rows)
 -- the fault at the lesser row
 abbrev pub lesser : Option Fault → Fault → Option Fault
 lesser None g = Some g
-lesser (Some f) g = if g.row <? f.row then Some g else Some f
+lesser (Some f) g = if is_lt (nat_cmp g.row f.row) then Some g else Some f
 
 -- the fault of an assignment at the least row of all groups of its variable
 abbrev pub fault_of : Setting → List Numbered → Assignment → Option Fault

@@ -19,9 +19,9 @@ pub enum Refusal {
 }
 
 impl From<Memory> for Refusal {
-    fn from(_: Memory) -> Refusal
-        ensures { result ≡ Refusal.Memory }
-    {
+    ghost from_gives = { λ _ refusal. refusal ≡ Memory };
+
+    fn from(_want: Memory) -> Refusal {
         Refusal::Memory
     }
 }

@@ -4,7 +4,9 @@
 #![tactic(auto)]
 
 mod described;
+mod describing;
 mod fault;
 
 pub use described::{Described, DescribedList, Description, DescriptionList};
+pub use describing::describe;
 pub use fault::{Fault, Refusal};

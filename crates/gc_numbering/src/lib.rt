@@ -5,7 +5,9 @@
 #![tactic(auto)]
 
 mod numbered;
+mod numbering;
 mod setting;
 
 pub use numbered::{Element, Numbered, Numbering};
+pub use numbering::number;
 pub use setting::Setting;

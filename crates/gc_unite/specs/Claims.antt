@@ -1,5 +1,5 @@
 -- The graph of elements that are claimed in any order, some of them several times.
-use Rattle.std.specs.Prelude.{◌≡◌, ℕ, ◌==◌, List, [], ◌∷◌, fold, Option, Some, None, ⊥}
+use Rattle.std.specs.Prelude.{◌≡◌, ℕ, ◌==◌, List, [], ◌∷◌, fold, Option, Some, None}
 use Rattle.std.specs.List.{filter}
 use Rattle.gc_spec.specs.PropertyGraph.{PropertyGraph, Node, Edge, Path, IsGraph, node_at, edge_at, path_at}
 use Rattle.gc_sets.specs.Descriptions.{united_node}
