@@ -1,3 +1,5 @@
+ghost use Rattle.std.specs.Prelude.{◌≡◌};
+
 use gc_base::Memory;
 use gc_values::Why;
 
