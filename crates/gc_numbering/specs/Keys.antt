@@ -40,9 +40,19 @@ id_of (datum.Edge id) = Some id
 id_of (datum.Stored id) = Some id
 id_of d = None
 
--- the number that a row of this place in the table gives to a variable, if one was given before
-abbrev pub number_at : List Numbered → Sym → ℕ → Option ℕ
-number_at before x place = option_and_then (λ v. option_and_then (λ n. n) (slice_get v.numbers place)) (find (λ v. v.var.0 == x.0) before)
+-- the row at a place in the table makes which of a variable's elements, if the variable is among those before
+abbrev pub which_of : (place : ℕ) → Numbered → Option ℕ
+which_of place v = option_and_then (λ which. which) (slice_get v.which place)
+
+abbrev pub which_at : List Numbered → Sym → (place : ℕ) → Option ℕ
+which_at before x place = option_and_then (which_of place) (find (λ v. v.var.0 == x.0) before)
+
+-- the number of that element
+abbrev pub number_in : (place : ℕ) → Numbered → Option ℕ
+number_in place v = option_map (λ e. e.number) (option_and_then (slice_get v.elements) (which_of place v))
+
+abbrev pub number_at : List Numbered → Sym → (place : ℕ) → Option ℕ
+number_at before x place = option_and_then (number_in place) (find (λ v. v.var.0 == x.0) before)
 
 -- the part of a key for the end of an edge: the number that the row gives to it
 abbrev pub end_part : List Numbered → Sym → ℕ → Option Datum

@@ -1,8 +1,8 @@
 -- How the elements of a CONSTRUCT are numbered.
-use Rattle.std.specs.Prelude.{ℕ, ◌+◌, List, [], ◌∷◌, ◌++◌, map, fold, length, Option, Some, None, slice_get}
-use Rattle.std.specs.List.{find}
-use Rattle.std.specs.Option.{option_map, option_and_then, unwrap_or}
-use Rattle.std.specs.Ordering.{is_eq}
+use Rattle.std.specs.Prelude.{ℕ, Bool, if◌then◌else◌, ◌+◌, List, [], ◌∷◌, ◌++◌, map, fold, length, Option, Some, None, slice_get}
+use Rattle.std.specs.List.{filter, list_any}
+use Rattle.std.specs.Option.{option_and_then, unwrap_or}
+use Rattle.std.specs.Ordering.{is_eq, is_lt}
 use Rattle.gc_base.specs.declared.place.Sym.{Sym}
 use Rattle.gc_group.specs.Groups.{key_order}
 use Rattle.gc_group.specs.declared.grouping.Group.{Group}
@@ -35,13 +35,19 @@ abbrev pub taken_by : Grouping → List Group → ℕ
 taken_by by.Bound groups = 0
 taken_by grouping groups = length groups
 
--- the number of the element with a key
-abbrev pub number_of : List Element → Key → Option ℕ
-number_of elements key = option_map (λ e. e.number) (find (λ e. is_eq (key_order e.group.key key)) elements)
+-- which of the elements has a key: elements ascend by their keys, so that as many stand before it as are below it
+abbrev pub has_key : Key → Element → Bool
+has_key key e = is_eq (key_order e.group.key key)
 
--- a variable with elements, and the number that each row gives to it
+abbrev pub is_below : Key → Element → Bool
+is_below key e = is_lt (key_order e.group.key key)
+
+abbrev pub which_has : List Element → Key → Option ℕ
+which_has elements key = if list_any (has_key key) elements then Some (length (filter (is_below key) elements)) else None
+
+-- a variable with elements, and which of them each row makes
 abbrev pub numbered_by : Sym → List (Option Key) → List Element → Numbered
-numbered_by x keys elements = record { var = x; elements = elements; numbers = map (option_and_then (number_of elements)) keys }
+numbered_by x keys elements = record { var = x; elements = elements; which = map (option_and_then (which_has elements)) keys }
 
 -- one variable more
 abbrev pub with_keys : Variable → Numbering → List (Option Key) → Numbering

@@ -14,8 +14,8 @@ pub struct Element {
 pub struct Numbered {
     pub var: Sym,
     pub elements: ElementList,
-    /// For each row of the table, in order, the number of its element, if it makes one.
-    pub numbers: RowElements,
+    /// For each row of the table, in order, which of the elements it makes, if it makes one.
+    pub which: RowElements,
 }
 
 /// The variables of a CONSTRUCT in their order.
@@ -29,8 +29,8 @@ pub struct Numbering {
 /// Elements of a variable.
 pub type ElementList = Sequence<Element>;
 
-/// Numbers of elements, or `None` where a row makes none.
-pub type RowElements = Sequence<Option<u64>>;
+/// Places of elements in their list, or `None` where a row makes none.
+pub type RowElements = Sequence<Option<usize>>;
 
 /// Variables that are numbered.
 pub type NumberedList = Sequence<Numbered>;

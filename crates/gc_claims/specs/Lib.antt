@@ -1,0 +1,4 @@
+pub mod Claimed
+pub mod Kept
+pub mod Makings
+pub mod Walks

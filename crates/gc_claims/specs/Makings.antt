@@ -1,0 +1,70 @@
+-- What a CONSTRUCT makes of each row.
+use Rattle.std.specs.Prelude.{ℕ, ◌+◌, ◌==◌, List, [], ◌∷◌, map, Option, Some, None, slice_get, if◌then◌else◌}
+use Rattle.std.specs.List.{find}
+use Rattle.std.specs.Option.{option_map, option_and_then, unwrap_or}
+use Rattle.gc_base.specs.declared.place.Sym.{Sym}
+use Rattle.gc_describe.specs.Described.{blank}
+use Rattle.gc_describe.specs.Faults.{elements_of}
+use Rattle.gc_describe.specs.declared.described.Described.{Described}
+use Rattle.gc_numbering.specs.Keys.{number_at, which_at}
+use Rattle.gc_numbering.specs.Settings.{Setting}
+use Rattle.gc_numbering.specs.declared.numbered.Element.{Element}
+use Rattle.gc_numbering.specs.declared.numbered.Numbered.{Numbered}
+use Rattle.gc_ppg.specs.declared.shape.Kind.{Kind}
+use Rattle.gc_ppg.specs.declared.shape.Kind.TheVariants as kind
+use Rattle.gc_recipe.specs.declared.variable.Grouping.{Grouping}
+use Rattle.gc_recipe.specs.declared.variable.Grouping.TheVariants as by
+use Rattle.gc_recipe.specs.declared.variable.Variable.{Variable}
+use Rattle.gc_rows.specs.declared.datum.Datum.{Datum}
+use Rattle.gc_rows.specs.declared.datum.Datum.TheVariants as datum
+use Rattle.gc_spec.specs.PropertyGraph.{is_among}
+use Rattle.gc_values.specs.Descriptions.{Description}
+use Rattle.gc_values.specs.declared.reads.Made.{Made}
+
+-- what is read, the variables, their elements with descriptions, and the next identity
+pub record Making : Type 0 where
+  pub setting : Setting
+  pub variables : List Variable
+  pub numbered : List Numbered
+  pub described : List Described
+  pub next : ℕ
+
+-- the identity of an element: a bound one keeps its own, which is its number; new ones come from the next identity on
+abbrev pub identity_by : (next : ℕ) → Grouping → (number : ℕ) → ℕ
+identity_by next by.Bound number = number
+identity_by next grouping number = next + number
+
+-- the identity that the row at a place gives to a variable, if it makes an element of it
+abbrev pub identity_of : Making → (place : ℕ) → Variable → Option ℕ
+identity_of m place v = option_map (identity_by m.next v.grouping) (number_at m.numbered v.var place)
+
+abbrev pub identity_at : Making → Sym → (place : ℕ) → Option ℕ
+identity_at m x place = option_and_then (identity_of m place) (find (λ v. v.var.0 == x.0) m.variables)
+
+-- the descriptions of a variable's elements
+abbrev pub listed_descriptions : Option Described → List Description
+listed_descriptions None = []
+listed_descriptions (Some d) = d.descriptions
+
+abbrev pub descriptions_of : List Described → Sym → List Description
+descriptions_of described x = listed_descriptions (find (λ d. d.var.0 == x.0) described)
+
+-- the description of the element that the row at a place makes
+abbrev pub description_at : Making → Sym → (place : ℕ) → Description
+description_at m x place = unwrap_or (option_and_then (slice_get (descriptions_of m.described x)) (which_at m.numbered x place)) blank
+
+-- an element of a kind as what a variable stands for
+abbrev pub element_of : Kind → ℕ → Datum
+element_of kind.Node id = datum.Node id
+element_of kind.Edge id = datum.Edge id
+element_of kind.Path id = datum.Stored id
+
+-- a variable as the row at a place makes it
+abbrev pub made_with : Variable → Option ℕ → Description → Made
+made_with v id d = record { var = v.var; datum = option_map (element_of v.kind) id; labels = d.labels; properties = d.properties }
+
+abbrev pub made_at : Making → (place : ℕ) → Variable → Made
+made_at m place v = made_with v (identity_of m place v) (description_at m v.var place)
+
+abbrev pub all_made : Making → (place : ℕ) → List Made
+all_made m place = map (made_at m place) m.variables
