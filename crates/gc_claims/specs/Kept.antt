@@ -54,15 +54,22 @@ abbrev pub kept_from : Making → Chain → (place : ℕ) → List (List Binding
 kept_from m c place [] = []
 kept_from m c place (row ∷ rows) = keeps m c place row ∷ kept_from m c (place + 1) rows
 
-abbrev pub kept_rows : Making → Chain → List Bool
-kept_rows m c = kept_from m c 0 m.setting.rows
+-- the instances of a chain: its places, the paths that it projects, and whether that on each row is kept
+pub record Kept : Type 0 where
+  pub places : List Sym
+  pub projected : List Sym
+  pub rows : List Bool
 
-abbrev pub is_kept : Making → (place : ℕ) → Chain → Bool
-is_kept m place c = unwrap_or (slice_get (kept_rows m c) place) false
+abbrev pub kept_of : Making → Chain → Kept
+kept_of m c = record { places = c.places; projected = c.projected; rows = kept_from m c 0 m.setting.rows }
+
+-- the instance on the row at a place is kept
+abbrev pub is_kept : (place : ℕ) → Kept → Bool
+is_kept place k = unwrap_or (slice_get k.rows place) false
 
 -- an element is claimed where an instance is kept that has it
-abbrev pub has_instance : Making → List Chain → Sym → (place : ℕ) → Bool
-has_instance m chains x place = list_any (λ c. lists c.places x && is_kept m place c) chains
+abbrev pub has_instance : List Kept → Sym → (place : ℕ) → Bool
+has_instance kept x place = list_any (λ k. lists k.places x && is_kept place k) kept
 
-abbrev pub is_claimed : Making → List Chain → Sym → Element → Bool
-is_claimed m chains x e = list_any (has_instance m chains x) e.group.rows
+abbrev pub is_claimed : List Kept → Sym → Element → Bool
+is_claimed kept x e = list_any (has_instance kept x) e.group.rows

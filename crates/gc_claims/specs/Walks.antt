@@ -8,14 +8,13 @@ use Rattle.gc_base.specs.declared.walk.Walk.{Walk}
 use Rattle.gc_numbering.specs.Settings.{Setting, on_row}
 use Rattle.gc_ppg.specs.declared.shape.Kind.{Kind}
 use Rattle.gc_ppg.specs.declared.shape.Kind.TheVariants as kind
-use Rattle.gc_recipe.specs.declared.chain.Chain.{Chain}
 use Rattle.gc_recipe.specs.declared.variable.Variable.{Variable}
 use Rattle.gc_rows.specs.Rows.{datum_at, lists}
 use Rattle.gc_rows.specs.declared.row.Binding.{Binding}
 use Rattle.gc_spec.specs.PropertyGraph.{PropertyGraph, Node, Edge, is_among}
 use Rattle.gc_values.specs.Contexts.{own_graph, walk_graph}
 use Rattle.gc_values.specs.PathParts.{nodes_along, walk_in}
-use Rattle.gc_claims.specs.Kept.{is_kept}
+use Rattle.gc_claims.specs.Kept.{Kept, is_kept}
 use Rattle.gc_claims.specs.Makings.{Making}
 
 -- the graph in which a variable is read, and the one in which the elements on its walk are
@@ -33,24 +32,24 @@ is_path k = false
 abbrev pub with_path : List Sym → Sym → List Sym
 with_path paths p = if lists paths p then paths else paths ++ p ∷ []
 
-abbrev pub walked : List Chain → List Variable → List Sym
-walked chains variables = fold with_path [] (flat_map (λ c. c.projected) chains ++ map (λ v. v.var) (filter (λ v. is_path v.kind) variables))
+abbrev pub walked : List Kept → List Variable → List Sym
+walked kept variables = fold with_path [] (flat_map (λ k. k.projected) kept ++ map (λ v. v.var) (filter (λ v. is_path v.kind) variables))
 
 -- whether a kept instance on the row at a place has the walk of a path
-abbrev pub has_walk : Making → List Chain → Sym → (place : ℕ) → Bool
-has_walk m chains p place = list_any (λ c. (lists c.places p || lists c.projected p) && is_kept m place c) chains
+abbrev pub has_walk : List Kept → Sym → (place : ℕ) → Bool
+has_walk kept p place = list_any (λ k. (lists k.places p || lists k.projected p) && is_kept place k) kept
 
 -- the walks of a path in kept instances on rows, the first of which has this place
 abbrev pub walk_if : Making → Sym → Bool → List Binding → List Walk
 walk_if m p false row = []
 walk_if m p true row = option_to_list (walk_in (read_graph m.setting p) (datum_at row p))
 
-abbrev pub walks_from : Making → List Chain → Sym → (place : ℕ) → List (List Binding) → List Walk
-walks_from m chains p place [] = []
-walks_from m chains p place (row ∷ rows) = walk_if m p (has_walk m chains p place) row ++ walks_from m chains p (place + 1) rows
+abbrev pub walks_from : Making → List Kept → Sym → (place : ℕ) → List (List Binding) → List Walk
+walks_from m kept p place [] = []
+walks_from m kept p place (row ∷ rows) = walk_if m p (has_walk kept p place) row ++ walks_from m kept p (place + 1) rows
 
-abbrev pub walks_of : Making → List Chain → Sym → List Walk
-walks_of m chains p = walks_from m chains p 0 m.setting.rows
+abbrev pub walks_of : Making → List Kept → Sym → List Walk
+walks_of m kept p = walks_from m kept p 0 m.setting.rows
 
 -- the nodes and the edges on these walks, as the path's graph has them
 abbrev pub nodes_on : List Walk → Option PropertyGraph → List Node
@@ -61,8 +60,8 @@ abbrev pub edges_on : List Walk → Option PropertyGraph → List Edge
 edges_on walks None = []
 edges_on walks (Some g) = filter (λ e. is_among (flat_map edges_of walks) e.id) g.edges
 
-abbrev pub walk_nodes : Making → List Chain → Sym → List Node
-walk_nodes m chains p = nodes_on (walks_of m chains p) (along_graph m.setting p)
+abbrev pub walk_nodes : Making → List Kept → Sym → List Node
+walk_nodes m kept p = nodes_on (walks_of m kept p) (along_graph m.setting p)
 
-abbrev pub walk_edges : Making → List Chain → Sym → List Edge
-walk_edges m chains p = edges_on (walks_of m chains p) (along_graph m.setting p)
+abbrev pub walk_edges : Making → List Kept → Sym → List Edge
+walk_edges m kept p = edges_on (walks_of m kept p) (along_graph m.setting p)

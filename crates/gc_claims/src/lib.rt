@@ -3,8 +3,14 @@
 //! what the definition says. This crate groups no rows, describes no element and unites no claims.
 #![tactic(auto)]
 
+mod edges;
 mod elements;
+mod instances;
+mod kept;
+mod made;
 mod making;
+mod nodes;
+mod paths;
 
 pub use elements::Claims;
 pub use making::Making;

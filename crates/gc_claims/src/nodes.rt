@@ -1,0 +1,41 @@
+ghost use Rattle.gc_ppg.specs.declared.shape.Kind.TheVariants.{Node as NodeKind};
+ghost use Rattle.gc_claims.specs.Claimed.{node_claims};
+
+use crate::elements::Claim;
+use crate::making::Making;
+use gc_base::{Duplicate, Memory, Steps};
+use gc_describe::Description;
+use gc_numbering::Element;
+use gc_ppg::{Kind, NodeInfo};
+use gc_recipe::Variable;
+use std::sync::ledger::Ledger;
+
+impl Claim for NodeInfo {
+    ghost kind = { NodeKind };
+
+    ghost claims = { node_claims };
+
+    fn is_of(k: Kind) -> bool {
+        match k {
+            Kind::Node => true,
+            Kind::Edge => false,
+            Kind::Path => false,
+        }
+    }
+
+    fn claim<L: Ledger>(
+        claimed: &mut Vec<NodeInfo>,
+        making: &Making<'_>,
+        variable: &Variable,
+        element: &Element,
+        description: &Description,
+        _steps: &mut Steps<L>,
+    ) -> Result<(), Memory> {
+        claimed.push(NodeInfo {
+            id: making.identity(&variable.grouping, element.number)?,
+            labels: description.labels.copy()?,
+            properties: description.properties.copy()?,
+        })?;
+        Ok(())
+    }
+}
