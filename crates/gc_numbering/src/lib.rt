@@ -7,6 +7,7 @@
 mod numbered;
 mod numbering;
 mod setting;
+mod terms;
 
 pub use numbered::{Element, Numbered, Numbering};
 pub use numbering::number;
