@@ -4,6 +4,7 @@
 //! assignment.
 #![tactic(auto)]
 
+mod keys;
 mod numbered;
 mod numbering;
 mod setting;

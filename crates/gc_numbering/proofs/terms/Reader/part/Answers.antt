@@ -10,4 +10,4 @@ pub returns-in_ok-values-in-Some-Some : goal.returns-in_ok-values-in-Some-Some
 returns-in_ok-values-in-Some-Some g c =
     let there : Some c.in-Some-Some.field-0-0.now ≡ datum_at c.args.row.now c.args.self.now.var = search rules in
     ap (λ values. Some (datum.Value values)) c.in_ok-values-in-Some-Some.ensures
-    ∙ part_read (on_row c.args.setting.now c.args.row.now) c.args.self.now (numbered_expr c.in-Some-Some.property) c.in-Some-Some.field-0-0.now ? there
+    ∙ part_read (on_row c.args.setting.now c.args.row.now) c.args.self.now (numbered_expr c.in-Some-Some.property) c.in-Some-Some.field-0-0.now (search rules) there
