@@ -4,6 +4,7 @@
 //! assignment.
 #![tactic(auto)]
 
+mod elements;
 mod keys;
 mod numbered;
 mod numbering;
