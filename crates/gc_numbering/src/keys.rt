@@ -78,7 +78,8 @@ impl Placed<'_> {
                 target,
                 terms: _,
             } => {
-                let mut parts = Vec::new(alloc);
+                let room = readers.len().saturating_add(2);
+                let mut parts = Vec::with_capacity(alloc, room)?;
                 parts.push(self.end_part(*source)?)?;
                 parts.push(self.end_part(*target)?)?;
                 self.read(readers, &mut parts, steps)?;

@@ -1,12 +1,15 @@
-ghost use Rattle.std.specs.Prelude.{◌≡◌, IfOk, OnOk};
-ghost use Rattle.gc_numbering.specs.Numbers.{numbering, with_variable, with_keys};
+ghost use Rattle.std.specs.Prelude.{◌≡◌, IfOk, OnOk, map};
+ghost use Rattle.gc_base.specs.Ascending.{Ascends};
+ghost use Rattle.gc_group.specs.Groups.{key_order};
+ghost use Rattle.gc_numbering.specs.Keys.{groups_of};
+ghost use Rattle.gc_numbering.specs.Numbers.{elements_by, numbered_by, numbering, with_keys, with_variable};
 
 use crate::elements::{elements, numbers, taken_by};
 use crate::keys::keys;
 use crate::numbered::{ElementList, Numbered, NumberedList, Numbering, RowElements};
 use crate::setting::Setting;
 use gc_base::{Memory, Steps};
-use gc_group::{Key, groups};
+use gc_group::{Group, Key, groups};
 use gc_recipe::Variable;
 use std::alloc::Global;
 use std::sync::ledger::Ledger;
@@ -54,15 +57,38 @@ fn add_by_keys(
 ) -> Result<(), Memory>
     ensures { OnOk result (numbering.new ≡ with_keys variable.now numbering.old keys.now) }
 {
-    let groups = groups(alloc, keys)?;
+    let groups = groups_of(alloc, keys)?;
     let taken = taken_by(&variable.grouping, &groups);
-    let elements = elements(alloc, &variable.grouping, numbering.next, groups)?;
-    let numbers = numbers(alloc, keys, &elements)?;
+    let numbered = numbered_by(alloc, numbering.next, variable, keys, groups)?;
     numbering.next = numbering.next.checked_add(taken).ok_or(Memory)?;
-    numbering.variables.push(Numbered {
+    numbering.variables.push(numbered)?;
+    Ok(())
+}
+
+// The groups of the rows with these keys, by ascending keys.
+fn groups_of(alloc: Global, keys: &[Option<Key>]) -> Result<Vec<Group>, Memory>
+    ensures groups { IfOk result (λ groups. groups.items ≡ groups_of keys.now) }
+    ensures ascend { IfOk result (λ groups. Ascends key_order (map (λ g. g.key) groups.items)) }
+{
+    groups(alloc, keys)
+}
+
+// A variable with the elements of these groups, and the number that each row gives to it by its key.
+fn numbered_by(
+    alloc: Global,
+    next: u64,
+    variable: &Variable,
+    keys: &[Option<Key>],
+    groups: Vec<Group>,
+) -> Result<Numbered, Memory>
+    requires { Ascends key_order (map (λ g. g.key) groups.items) }
+    ensures { IfOk result (λ n. n ≡ numbered_by variable.now.var keys.now (elements_by variable.now.grouping next groups.items)) }
+{
+    let elements = elements(alloc, &variable.grouping, next, groups)?;
+    let numbers = numbers(alloc, keys, &elements)?;
+    Ok(Numbered {
         var: variable.var,
         elements: ElementList::from_vec(elements),
         numbers: RowElements::from_vec(numbers),
-    })?;
-    Ok(())
+    })
 }
