@@ -10,6 +10,8 @@ mod numbered;
 mod numbering;
 mod setting;
 mod terms;
+#[cfg(test)]
+mod tests;
 
 pub use numbered::{Element, Numbered, Numbering};
 pub use numbering::number;
