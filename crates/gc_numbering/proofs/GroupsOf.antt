@@ -1,5 +1,5 @@
 -- The groups of rows are told by the keys of the rows, and their keys ascend.
-use Rattle.std.proofs.Common.{◌≡◌, ℕ, ◌+◌, List, [], ◌∷◌, Option, map, refl, sym, ap, ◌∙◌, subst}
+use Rattle.std.proofs.Common.{◌≡◌, ℕ, ◌+◌, List, [], ◌∷◌, Option, map, refl, ap, ◌∙◌}
 use Rattle.std.specs.List.{AllByRecursion}
 use Rattle.std.specs.Ordering.{on}
 use Rattle.std.specs.declared.cmp.Ordering.TheVariants.{Less}

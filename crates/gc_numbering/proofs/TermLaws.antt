@@ -1,5 +1,5 @@
 -- What the expression of a term reads is the part of a key for it.
-use Rattle.std.proofs.Common.{◌≡◌, ℕ, List, [], Option, None, Some, refl, sym, ap, ◌∙◌}
+use Rattle.std.proofs.Common.{◌≡◌, ℕ, List, [], Option, None, Some, refl, ap, ◌∙◌}
 use Rattle.std.specs.Option.{option_map}
 use Rattle.gc_base.specs.declared.place.Sym.{Sym}
 use Rattle.gc_expr.specs.Trees as tree

@@ -1,5 +1,5 @@
 -- How the elements of a CONSTRUCT are numbered.
-use Rattle.std.specs.Prelude.{ℕ, ◌+◌, List, [], ◌∷◌, ◌++◌, map, fold, length, Option, Some, None, slice_get}
+use Rattle.std.specs.Prelude.{ℕ, ◌+◌, List, [], ◌∷◌, ◌++◌, map, fold, length, Option, slice_get}
 use Rattle.std.specs.List.{find}
 use Rattle.std.specs.Option.{option_map, option_and_then, unwrap_or}
 use Rattle.std.specs.Ordering.{is_eq}
@@ -46,8 +46,9 @@ numbered_by x keys elements = record { var = x; elements = elements; numbers = m
 -- one variable more
 abbrev pub with_keys : Variable → Numbering → List (Option Key) → Numbering
 with_keys v so_far keys = record {
-    next = so_far.next + taken_by v.grouping (groups_of keys);
-    variables = so_far.variables ++ numbered_by v.var keys (elements_by v.grouping so_far.next (groups_of keys)) ∷ [] }
+  next = so_far.next + taken_by v.grouping (groups_of keys);
+  variables = so_far.variables ++ numbered_by v.var keys (elements_by v.grouping so_far.next (groups_of keys)) ∷ [];
+}
 
 abbrev pub with_variable : Setting → Numbering → Variable → Numbering
 with_variable s so_far v = with_keys v so_far (keys_of s so_far.variables v)

@@ -119,8 +119,17 @@ fn literals<L: Ledger>(
     let alloc = setting.alloc;
     let made = MadeList::new(alloc);
     let folded = ValList::new(alloc);
-    let graphs = setting.graphs;
-    match value(alloc, expr, row, setting.reads, graphs, &made, &folded, steps)? {
+    let value = value(
+        alloc,
+        expr,
+        row,
+        setting.reads,
+        setting.graphs,
+        &made,
+        &folded,
+        steps,
+    )?;
+    match value {
         Val::Set(literals) => Ok(literals),
         Val::Element(_) | Val::Walked | Val::Undefined(_) => Ok(ValueSet::empty(alloc)),
     }

@@ -1,4 +1,4 @@
-use Rattle.std.proofs.Common.{◌≡◌, map, sym, ap, ◌∙◌, subst, rules}
+use Rattle.std.proofs.Common.{◌≡◌, map, sym, ap, ◌∙◌, subst}
 use Rattle.gc_base.specs.Ascending.{Ascends}
 use Rattle.gc_group.specs.Groups.{key_order}
 use Rattle.gc_numbering.proofs.GroupsOf.{element_keys}

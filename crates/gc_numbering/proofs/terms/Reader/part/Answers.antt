@@ -1,4 +1,4 @@
-use Rattle.std.proofs.Common.{◌≡◌, Some, ap, sym, ◌∙◌, rules}
+use Rattle.std.proofs.Common.{◌≡◌, Some, ap, ◌∙◌, rules}
 use Rattle.gc_rows.specs.declared.datum.Datum.TheVariants as datum
 use Rattle.gc_rows.specs.Rows.{datum_at}
 use Rattle.gc_expr.specs.Views.{numbered_expr}
