@@ -18,6 +18,7 @@ use Rattle.gc_unite.specs.Claims.{Claims}
 use Rattle.gc_values.specs.Contexts.{own_graph}
 use Rattle.gc_values.specs.Descriptions.{Description}
 use Rattle.gc_values.specs.PathParts.{stored_walk}
+use Rattle.gc_claims.specs.declared.elements.Claims.{Claims as Given}
 use Rattle.gc_claims.specs.Kept.{Kept, is_claimed, kept_of}
 use Rattle.gc_claims.specs.Makings.{Making, descriptions_of, identity_at, identity_by}
 use Rattle.gc_claims.specs.Walks.{read_graph, walk_edges, walk_nodes, walked}
@@ -102,3 +103,7 @@ claims_with m kept graphs = record {
 
 abbrev pub all_claims : Making → List Chain → (graphs : List ℕ) → Claims
 all_claims m chains graphs = claims_with m (map (kept_of m) chains) graphs
+
+-- claims as they are given
+abbrev pub seen : Given → Claims
+seen c = record { nodes = c.nodes.items; edges = c.edges.items; paths = c.paths.items }

@@ -51,17 +51,14 @@ walks_from m kept p place (row ∷ rows) = walk_if m p (has_walk kept p place) r
 abbrev pub walks_of : Making → List Kept → Sym → List Walk
 walks_of m kept p = walks_from m kept p 0 m.setting.rows
 
--- the nodes and the edges on these walks, as the path's graph has them
-abbrev pub nodes_on : List Walk → Option PropertyGraph → List Node
-nodes_on walks None = []
-nodes_on walks (Some g) = filter (λ n. is_among (flat_map nodes_along walks) n.id) g.nodes
+-- what a graph has of some identities
+abbrev pub of_ids : {X : Type 0} → (X → ℕ) → (PropertyGraph → List X) → List ℕ → Option PropertyGraph → List X
+of_ids id_of all ids None = []
+of_ids id_of all ids (Some g) = filter (λ x. is_among ids (id_of x)) (all g)
 
-abbrev pub edges_on : List Walk → Option PropertyGraph → List Edge
-edges_on walks None = []
-edges_on walks (Some g) = filter (λ e. is_among (flat_map edges_of walks) e.id) g.edges
-
+-- the nodes and the edges on the walks of a path in kept instances, as the path's graph has them
 abbrev pub walk_nodes : Making → List Kept → Sym → List Node
-walk_nodes m kept p = nodes_on (walks_of m kept p) (along_graph m.setting p)
+walk_nodes m kept p = of_ids (λ n. n.id) (λ g. g.nodes) (flat_map nodes_along (walks_of m kept p)) (along_graph m.setting p)
 
 abbrev pub walk_edges : Making → List Kept → Sym → List Edge
-walk_edges m kept p = edges_on (walks_of m kept p) (along_graph m.setting p)
+walk_edges m kept p = of_ids (λ e. e.id) (λ g. g.edges) (flat_map edges_of (walks_of m kept p)) (along_graph m.setting p)

@@ -3,14 +3,19 @@
 //! what the definition says. This crate groups no rows, describes no element and unites no claims.
 #![tactic(auto)]
 
+mod claiming;
 mod edges;
 mod elements;
+mod graphs;
 mod instances;
 mod kept;
+mod listed;
 mod made;
 mod making;
 mod nodes;
 mod paths;
+mod walks;
 
+pub use claiming::claims;
 pub use elements::Claims;
 pub use making::Making;

@@ -15,8 +15,9 @@ pub(crate) fn all_made(making: &Making<'_>, place: usize) -> Result<MadeList, Me
     ensures { IfOk result (λ made. made ≡ all_made making.now place) }
 {
     let setting = making.setting;
-    let mut made = Vec::with_capacity(setting.alloc, making.variables.len())?;
-    for variable in making.variables {
+    let variables = making.variables;
+    let mut made = Vec::with_capacity(setting.alloc, variables.len())?;
+    for variable in variables {
         made.push(made_at(making, place, variable)?)?;
     }
     Ok(MadeList::from_vec(made))

@@ -66,7 +66,7 @@ impl Making<'_> {
     pub(crate) fn identity_at(&self, var: Sym, place: usize) -> Result<Option<Id>, Memory>
         ensures { IfOk result (λ id. id ≡ identity_at self.now var place) }
     {
-        match self.variables.iter().find(|v| v.var.0 == var.0) {
+        match self.variable(var) {
             None => Ok(None),
             Some(variable) => self.identity_of(place, variable),
         }
@@ -92,6 +92,20 @@ impl Making<'_> {
         }
     }
 
+    // A variable by its number.
+    fn variable(&self, var: Sym) -> Option<&Variable>
+        ensures { option_copied result ≡ find (λ v. v.var.0 == var.0) self.now.variables }
+    {
+        self.variables.iter().find(|v| v.var.0 == var.0)
+    }
+
+    // A variable with descriptions.
+    fn described(&self, var: Sym) -> Option<&Described>
+        ensures { option_copied result ≡ find (λ d. d.var.0 == var.0) self.now.described }
+    {
+        self.described.iter().find(|d| d.var.0 == var.0)
+    }
+
     // A variable with its elements.
     fn numbered(&self, var: Sym) -> Option<&Numbered>
         ensures { option_copied result ≡ find (λ v. v.var.0 == var.0) self.now.numbered }
@@ -113,7 +127,7 @@ impl Making<'_> {
     pub(crate) fn descriptions(&self, var: Sym) -> &[Description]
         ensures { result.now ≡ descriptions_of self.now.described var }
     {
-        match self.described.iter().find(|d| d.var.0 == var.0) {
+        match self.described(var) {
             None => &[],
             Some(described) => described.descriptions.as_slice(),
         }

@@ -52,8 +52,9 @@ numbered_by x keys elements = record { var = x; elements = elements; which = map
 -- one variable more
 abbrev pub with_keys : Variable → Numbering → List (Option Key) → Numbering
 with_keys v so_far keys = record {
-    next = so_far.next + taken_by v.grouping (groups_of keys);
-    variables = so_far.variables ++ numbered_by v.var keys (elements_by v.grouping so_far.next (groups_of keys)) ∷ [] }
+  next = so_far.next + taken_by v.grouping (groups_of keys);
+  variables = so_far.variables ++ numbered_by v.var keys (elements_by v.grouping so_far.next (groups_of keys)) ∷ [];
+}
 
 abbrev pub with_variable : Setting → Numbering → Variable → Numbering
 with_variable s so_far v = with_keys v so_far (keys_of s so_far.variables v)

@@ -1,5 +1,5 @@
 -- What a CONSTRUCT is read on.
-use Rattle.std.specs.Prelude.{ℕ, List, []}
+use Rattle.std.specs.Prelude.{List, []}
 use Rattle.gc_base.specs.declared.place.Sym.{Sym}
 use Rattle.gc_rows.specs.declared.row.Binding.{Binding}
 use Rattle.gc_spec.specs.PropertyGraph.{PropertyGraph}

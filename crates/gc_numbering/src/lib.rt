@@ -4,9 +4,14 @@
 //! assignment.
 #![tactic(auto)]
 
+mod elements;
+mod keys;
 mod numbered;
 mod numbering;
 mod setting;
+mod terms;
+#[cfg(test)]
+mod tests;
 
 pub use numbered::{Element, Numbered, Numbering};
 pub use numbering::number;

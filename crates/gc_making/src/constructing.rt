@@ -1,0 +1,75 @@
+ghost use Rattle.std.specs.Prelude.{IfOk};
+ghost use Rattle.gc_claims.specs.Claimed.{all_claims};
+ghost use Rattle.gc_making.specs.Constructed.{Constructs, IsAfter};
+ghost use Rattle.gc_unite.specs.Claims.{IsOutcome};
+
+use crate::built::{Built, Refusal};
+use gc_base::{Memory, Steps};
+use gc_claims::{Making, claims};
+use gc_describe::{Refusal as DescribeRefusal, describe};
+use gc_numbering::{Setting, number};
+use gc_ppg::Graph;
+use gc_recipe::Recipe;
+use gc_unite::unite;
+use std::sync::ledger::Ledger;
+
+// One more than the largest identity.
+const END: u64 = 9_007_199_254_740_992;
+
+/// The graph that a CONSTRUCT makes of a table, and the identity that comes next, where new elements have
+/// identities from `next` on. It is refused as `Fault` exactly where an assignment is undefined on a row
+/// of a group of its variable, and else as `IdsSpent` exactly where the new identities would pass the
+/// largest. There is `None` exactly where what it claims is no graph. `steps` counts what is read.
+pub fn construct<L: Ledger>(
+    setting: &Setting<'_>,
+    recipe: &Recipe,
+    next: u64,
+    steps: &mut Steps<L>,
+) -> Result<Option<Built>, Refusal>
+    ensures { Constructs setting.now recipe.now next result }
+{
+    let numbering = number(setting, recipe.variables.as_slice(), steps)?;
+    let described = match describe(setting, recipe, &numbering, steps) {
+        Ok(described) => described,
+        Err(DescribeRefusal::Fault(fault)) => return Err(Refusal::Fault(fault)),
+        Err(DescribeRefusal::Memory) => return Err(Refusal::Memory),
+    };
+    let Some(after) = after(next, numbering.next) else {
+        return Err(Refusal::IdsSpent(numbering.next));
+    };
+    let making = Making {
+        setting,
+        variables: recipe.variables.as_slice(),
+        numbered: numbering.variables.as_slice(),
+        described: described.as_slice(),
+        next,
+    };
+    match united(&making, recipe, steps)? {
+        None => Ok(None),
+        Some(graph) => Ok(Some(Built { graph, next: after })),
+    }
+}
+
+// The identity behind so many new ones, if there are so many.
+fn after(next: u64, needed: u64) -> Option<u64>
+    ensures { IsAfter next needed result }
+{
+    let after = next.checked_add(needed)?;
+    if after > END {
+        return None;
+    }
+    Some(after)
+}
+
+// The graph of what is claimed, if there is one.
+fn united<L: Ledger>(
+    making: &Making<'_>,
+    recipe: &Recipe,
+    steps: &mut Steps<L>,
+) -> Result<Option<Graph>, Memory>
+    ensures { IfOk result (IsOutcome (all_claims making.now recipe.now.chains.items recipe.now.graphs)) }
+{
+    let claims = claims(making, &recipe.chains, recipe.graphs.as_slice(), steps)?;
+    let setting = making.setting;
+    unite(setting.alloc, claims.nodes, claims.edges, claims.paths)
+}

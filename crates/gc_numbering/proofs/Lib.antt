@@ -1,0 +1,3 @@
+pub mod Distinct
+pub mod GroupsOf
+pub mod TermLaws
