@@ -63,7 +63,7 @@ element_of kind.Path id = datum.Stored id
 abbrev pub made_with : Variable → Option ℕ → Description → Made
 made_with v id d = record { var = v.var; datum = option_map (element_of v.kind) id; labels = d.labels; properties = d.properties }
 
-abbrev pub made_at : Making → (place : ℕ) → Variable → Made
+unfoldable pub made_at : Making → (place : ℕ) → Variable → Made
 made_at m place v = made_with v (identity_of m place v) (description_at m v.var place)
 
 abbrev pub all_made : Making → (place : ℕ) → List Made

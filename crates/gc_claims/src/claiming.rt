@@ -1,6 +1,6 @@
 ghost use Rattle.std.specs.Prelude.{◌≡◌, ◌++◌, IfOk, OnOk, fold, map};
 ghost use Rattle.std.specs.List.{flat_map, filter};
-ghost use Rattle.gc_claims.specs.Claimed.{all_claims, claims_for, claims_with, seen};
+ghost use Rattle.gc_claims.specs.Claimed.{all_claims, claims_for, claims_with, in_items, seen};
 ghost use Rattle.gc_claims.specs.Walks.{along_graph, is_path, of_ids, walked, walks_of, with_path};
 
 use crate::elements::{Claim, Claims, claim_for};
@@ -43,19 +43,44 @@ fn claims_with<L: Ledger>(
     requires { paths.now ≡ walked kept.now making.now.variables }
     ensures { IfOk result (λ claims. seen claims ≡ claims_with making.now kept.now graphs.now) }
 {
-    let mut nodes = claimed_by(making, kept, steps)?;
-    add_all_walks(&mut nodes, making, kept, paths, steps)?;
-    add_graphs(&mut nodes, making, graphs, steps)?;
-    let mut edges = claimed_by(making, kept, steps)?;
-    add_all_walks(&mut edges, making, kept, paths, steps)?;
-    add_graphs(&mut edges, making, graphs, steps)?;
-    let mut stored = claimed_by(making, kept, steps)?;
-    add_graphs(&mut stored, making, graphs, steps)?;
     Ok(Claims {
-        nodes,
-        edges,
-        paths: stored,
+        nodes: all_claimed(making, kept, paths, graphs, steps)?,
+        edges: all_claimed(making, kept, paths, graphs, steps)?,
+        paths: paths_claimed(making, kept, graphs, steps)?,
     })
+}
+
+// The nodes, or the edges: those of kept instances, those on their walks, and those of graphs.
+fn all_claimed<T: Claim + Part + OnWalk + Drop, L: Ledger>(
+    making: &Making<'_>,
+    kept: &[Kept<'_>],
+    paths: &[Sym],
+    graphs: &[u32],
+    steps: &mut Steps<L>,
+) -> Result<Vec<T>, Memory>
+    ensures { IfOk result (λ claimed. claimed.items ≡ flat_map (claims_for making.now kept.now T.kind (T.claims making.now)) making.now.variables
+        ++ flat_map (λ p. of_ids T.id_of T.all (flat_map T.on (walks_of making.now kept.now p)) (along_graph making.now.setting p)) paths.now
+        ++ in_items making.now.setting.graphs graphs.now T.all) }
+{
+    let mut claimed = claimed_by(making, kept, steps)?;
+    add_all_walks(&mut claimed, making, kept, paths, steps)?;
+    add_graphs(&mut claimed, making, graphs, steps)?;
+    Ok(claimed)
+}
+
+// The stored paths: those of kept instances, and those of graphs.
+fn paths_claimed<T: Claim + Part + Drop, L: Ledger>(
+    making: &Making<'_>,
+    kept: &[Kept<'_>],
+    graphs: &[u32],
+    steps: &mut Steps<L>,
+) -> Result<Vec<T>, Memory>
+    ensures { IfOk result (λ claimed. claimed.items ≡ flat_map (claims_for making.now kept.now T.kind (T.claims making.now)) making.now.variables
+        ++ in_items making.now.setting.graphs graphs.now T.all) }
+{
+    let mut claimed = claimed_by(making, kept, steps)?;
+    add_graphs(&mut claimed, making, graphs, steps)?;
+    Ok(claimed)
 }
 
 // What is claimed for the elements of all variables of one kind.

@@ -1,10 +1,10 @@
-ghost use Rattle.std.specs.Prelude.{◌≡◌, ◌<◌, ◌++◌, ℕ, List, OnOk, Some, length, slice_get};
+ghost use Rattle.std.specs.Prelude.{◌≡◌, ◌<◌, ◌++◌, ◌∷◌, [], ℕ, List, OnOk, Some, length, slice_get};
 ghost use Rattle.std.specs.List.{filter, flat_map};
 ghost use Rattle.std.specs.Option.{option_copied};
 ghost use Rattle.std.specs.Ordering.{nat_cmp};
 ghost use Rattle.gc_base.specs.Ascending.{Ascends};
 ghost use Rattle.gc_spec.specs.PropertyGraph.{PropertyGraph, is_among};
-ghost use Rattle.gc_claims.specs.Claimed.{in_items};
+ghost use Rattle.gc_claims.specs.Claimed.{in_graph, in_items};
 ghost use Rattle.gc_claims.specs.Walks.{along_graph, of_ids, walks_of};
 
 use crate::kept::Kept;
@@ -99,13 +99,24 @@ pub(crate) fn add_graphs<T: Part + Drop, L: Ledger>(
 ) -> Result<(), Memory>
     ensures { OnOk result (claimed.new.items ≡ claimed.old.items ++ in_items making.now.setting.graphs numbers.now T.all) }
 {
-    let setting = making.setting;
     for number in numbers {
-        if let Some(graph) = setting.graphs.as_slice().get(*number as usize) {
-            add_graph(claimed, graph, steps)?;
-        }
+        add_numbered(claimed, making.graph(*number), steps)?;
     }
     Ok(())
+}
+
+// Adds copies of all that a graph has, if it is there.
+fn add_numbered<T: Part + Drop, L: Ledger>(
+    claimed: &mut Vec<T>,
+    graph: Option<&Graph>,
+    steps: &mut Steps<L>,
+) -> Result<(), Memory>
+    ensures { OnOk result (claimed.new.items ≡ claimed.old.items ++ in_graph T.all (option_copied graph.entry)) }
+{
+    match graph {
+        None => Ok(()),
+        Some(graph) => add_graph(claimed, graph, steps),
+    }
 }
 
 // Adds copies of all that a graph has.
@@ -117,8 +128,16 @@ fn add_graph<T: Part + Drop, L: Ledger>(
     ensures { OnOk result (claimed.new.items ≡ claimed.old.items ++ T.all graph.now) }
 {
     for i in 0..T::count(graph) {
-        claimed.push(T::at(graph, i, steps).copy()?)?;
+        add_copy(claimed, T::at(graph, i, steps))?;
     }
+    Ok(())
+}
+
+// Adds a copy of an element.
+fn add_copy<T: Part + Drop>(claimed: &mut Vec<T>, element: &T) -> Result<(), Memory>
+    ensures { OnOk result (claimed.new.items ≡ claimed.old.items ++ element.now ∷ []) }
+{
+    claimed.push(element.copy()?)?;
     Ok(())
 }
 
@@ -135,25 +154,23 @@ pub(crate) fn add_walks<T: Part + OnWalk + Drop, L: Ledger>(
         ++ of_ids T.id_of T.all (flat_map T.on (walks_of making.now kept.now path)) (along_graph making.now.setting path)) }
 {
     let ids = ids_on_walks::<T, L>(making, kept, path, steps)?;
-    add_ids(claimed, making.along_graph(path), ids, steps)
+    match making.along_graph(path) {
+        None => Ok(()),
+        Some(graph) => add_ids(claimed, graph, ids, steps),
+    }
 }
 
 // Adds copies of what a graph has of these identities.
 fn add_ids<T: Part + Drop, L: Ledger>(
     claimed: &mut Vec<T>,
-    graph: Option<&Graph>,
+    graph: &Graph,
     ids: Vec<Id>,
     steps: &mut Steps<L>,
 ) -> Result<(), Memory>
-    ensures { OnOk result (claimed.new.items ≡ claimed.old.items ++ of_ids T.id_of T.all ids.items (option_copied graph.entry)) }
+    ensures { OnOk result (claimed.new.items ≡ claimed.old.items ++ of_ids T.id_of T.all ids.items (Some graph.now)) }
 {
-    match graph {
-        None => Ok(()),
-        Some(graph) => {
-            let ids = ascending(ids)?;
-            add_listed(claimed, graph, &ids, steps)
-        }
-    }
+    let ascending = ascending(ids)?;
+    add_listed(claimed, graph, &ascending, steps)
 }
 
 // Adds copies of what a graph has of these identities, which ascend.
@@ -167,10 +184,22 @@ fn add_listed<T: Part + Drop, L: Ledger>(
     ensures { OnOk result (claimed.new.items ≡ claimed.old.items ++ filter (λ x. is_among ids.now (T.id_of x)) (T.all graph.now)) }
 {
     for i in 0..T::count(graph) {
-        let element = T::at(graph, i, steps);
-        if is_listed(ids, element.id()) {
-            claimed.push(element.copy()?)?;
-        }
+        add_if_listed(claimed, T::at(graph, i, steps), ids)?;
+    }
+    Ok(())
+}
+
+// Adds a copy of an element if its identity is among these, which ascend.
+fn add_if_listed<T: Part + Drop>(
+    claimed: &mut Vec<T>,
+    element: &T,
+    ids: &[Id],
+) -> Result<(), Memory>
+    requires { Ascends nat_cmp ids.now }
+    ensures { OnOk result (claimed.new.items ≡ claimed.old.items ++ filter (λ x. is_among ids.now (T.id_of x)) (element.now ∷ [])) }
+{
+    if is_listed(ids, element.id()) {
+        claimed.push(element.copy()?)?;
     }
     Ok(())
 }

@@ -1,7 +1,7 @@
-ghost use Rattle.std.specs.Prelude.{◌≡◌, IfOk, Some, is_some};
+ghost use Rattle.std.specs.Prelude.{◌≡◌, ◌&&◌, IfOk, Some, is_some};
 ghost use Rattle.std.specs.List.{list_all};
 ghost use Rattle.std.specs.Option.{option_copied};
-ghost use Rattle.gc_claims.specs.Kept.{holds, is_stored, is_yes, keeps, when_context};
+ghost use Rattle.gc_claims.specs.Kept.{has_paths, has_places, holds, is_stored, is_yes, keeps, when_context};
 ghost use Rattle.gc_claims.specs.Makings.{identity_at};
 ghost use Rattle.gc_rows.specs.Rows.{datum_at};
 
@@ -25,16 +25,20 @@ pub(crate) fn keeps<L: Ledger>(
 ) -> Result<bool, Memory>
     ensures { IfOk result (λ kept. kept ≡ keeps making.now chain.now place row.now) }
 {
+    if !is_bound(making, chain, place, row)? {
+        return Ok(false);
+    }
+    holds(making, &chain.condition, place, row, steps)
+}
+
+// Whether each place of a chain has an identity, and each path that it projects is bound.
+fn is_bound(making: &Making<'_>, chain: &Chain, place: usize, row: &Row) -> Result<bool, Memory>
+    ensures { IfOk result (λ bound. bound ≡ (has_places making.now chain.now place && has_paths chain.now row.now)) }
+{
     if !has_places(making, chain.places.as_slice(), place)? {
         return Ok(false);
     }
-    if !has_paths(chain.projected.as_slice(), row) {
-        return Ok(false);
-    }
-    match &chain.condition {
-        None => Ok(true),
-        Some(condition) => holds(making, condition, place, row, steps),
-    }
+    Ok(has_paths(chain.projected.as_slice(), row))
 }
 
 // Whether the row at a place makes an element of each of these variables.
@@ -65,8 +69,24 @@ fn is_stored(datum: Option<&Datum>) -> bool
     }
 }
 
-// Whether a condition is true of what the row at a place makes.
+// Whether a condition, if there is one, is true of what the row at a place makes.
 fn holds<L: Ledger>(
+    making: &Making<'_>,
+    condition: &Option<Expr>,
+    place: usize,
+    row: &Row,
+    steps: &mut Steps<L>,
+) -> Result<bool, Memory>
+    ensures { IfOk result (λ is_true. is_true ≡ holds condition.now (when_context making.now place row.now)) }
+{
+    match condition {
+        None => Ok(true),
+        Some(condition) => is_true(making, condition, place, row, steps),
+    }
+}
+
+// Whether a condition is true of what the row at a place makes.
+fn is_true<L: Ledger>(
     making: &Making<'_>,
     condition: &Expr,
     place: usize,

@@ -1,4 +1,4 @@
-ghost use Rattle.std.specs.Prelude.{◌≡◌, IfOk};
+ghost use Rattle.std.specs.Prelude.{◌≡◌, IfOk, map};
 ghost use Rattle.std.specs.Option.{option_map};
 ghost use Rattle.gc_claims.specs.Makings.{all_made, description_at, element_of, made_at};
 
@@ -14,16 +14,28 @@ use gc_values::{Made, MadeList};
 pub(crate) fn all_made(making: &Making<'_>, place: usize) -> Result<MadeList, Memory>
     ensures { IfOk result (λ made. made ≡ all_made making.now place) }
 {
+    let made = each_made(making, making.variables, place)?;
+    Ok(MadeList::from_vec(made))
+}
+
+// Each of these variables as the row at a place makes it.
+fn each_made(
+    making: &Making<'_>,
+    variables: &[Variable],
+    place: usize,
+) -> Result<Vec<Made>, Memory>
+    ensures { IfOk result (λ made. made.items ≡ map (made_at making.now place) variables.now) }
+{
     let setting = making.setting;
-    let variables = making.variables;
     let mut made = Vec::with_capacity(setting.alloc, variables.len())?;
     for variable in variables {
         made.push(made_at(making, place, variable)?)?;
     }
-    Ok(MadeList::from_vec(made))
+    Ok(made)
 }
 
 // A variable as the row at a place makes it.
+#[tactic(auto, unfolding(crate::specs::Makings::made_at))]
 fn made_at(making: &Making<'_>, place: usize, variable: &Variable) -> Result<Made, Memory>
     ensures { IfOk result (λ made. made ≡ made_at making.now place variable.now) }
 {

@@ -172,8 +172,8 @@ impl Making<'_> {
         reads.find(|read| read.var.0 == var.0)
     }
 
-    // The graph of a number.
-    fn graph(&self, number: u32) -> Option<&Graph>
+    /// The graph of a number.
+    pub(crate) fn graph(&self, number: u32) -> Option<&Graph>
         ensures { option_copied result ≡ slice_get self.now.setting.graphs number }
     {
         let setting = self.setting;
