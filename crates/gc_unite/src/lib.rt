@@ -3,6 +3,9 @@
 //! no such graph. This crate knows of no query and no row.
 #![tactic(auto)]
 
+mod assembling;
+mod claim;
+mod gathering;
 mod uniting;
 
 pub use uniting::unite;
