@@ -21,11 +21,11 @@ pub(crate) fn assembled(
     ensures { IfOk result (IsGraphOf (record { nodes = nodes.items; edges = edges.items; paths = paths.items })) }
 {
     let mut builder = with_nodes(alloc, nodes)?;
-    if !edges.iter().all(|edge| edge_fits(&builder, edge)) {
+    if !edges_fit(&builder, &edges) {
         return Ok(None);
     }
     add_edges(&mut builder, edges)?;
-    if !paths.iter().all(|path| path_fits(&builder, path)) {
+    if !paths_fit(&builder, &paths) {
         return Ok(None);
     }
     add_paths(&mut builder, paths)?;
@@ -46,6 +46,13 @@ fn with_nodes(alloc: Global, nodes: Vec<NodeInfo>) -> Result<GraphBuilder, Memor
     Ok(builder)
 }
 
+// Whether each of some edges can be added.
+fn edges_fit(builder: &GraphBuilder, edges: &[EdgeInfo]) -> bool
+    ensures { result ≡ list_all (edge_fits builder.now) edges.now }
+{
+    edges.iter().all(|edge| edge_fits(builder, edge))
+}
+
 // Whether an edge can be added: its identity is new, and its ends are nodes.
 fn edge_fits(builder: &GraphBuilder, edge: &EdgeInfo) -> bool
     ensures { result ≡ edge_fits builder.now edge.now }
@@ -56,7 +63,7 @@ fn edge_fits(builder: &GraphBuilder, edge: &EdgeInfo) -> bool
 // Adds edges that fit to nodes.
 fn add_edges(builder: &mut GraphBuilder, edges: Vec<EdgeInfo>) -> Result<(), Memory>
     requires ascend { Ascends edge_order edges.items }
-    requires alone { builder.old ≡ record builder.old { edges = []; paths = [] } }
+    requires none { builder.old.edges ≡ [] }
     requires fit { list_all (edge_fits builder.old) edges.items ≡ true }
     ensures { OnOk result (builder.new ≡ record builder.old { edges = edges.items }) }
 {
@@ -64,6 +71,13 @@ fn add_edges(builder: &mut GraphBuilder, edges: Vec<EdgeInfo>) -> Result<(), Mem
         builder.put_edge(edge)?;
     }
     Ok(())
+}
+
+// Whether each of some stored paths can be added.
+fn paths_fit(builder: &GraphBuilder, paths: &[PathInfo]) -> bool
+    ensures { result ≡ list_all (path_fits builder.now) paths.now }
+{
+    paths.iter().all(|path| path_fits(builder, path))
 }
 
 // Whether a stored path can be added: its identity is new, and its walk goes along the graph so far.
@@ -76,7 +90,7 @@ fn path_fits(builder: &GraphBuilder, path: &PathInfo) -> bool
 // Adds stored paths that fit to nodes and edges.
 fn add_paths(builder: &mut GraphBuilder, paths: Vec<PathInfo>) -> Result<(), Memory>
     requires ascend { Ascends path_order paths.items }
-    requires alone { builder.old ≡ record builder.old { paths = [] } }
+    requires none { builder.old.paths ≡ [] }
     requires fit { list_all (path_fits builder.old) paths.items ≡ true }
     ensures { OnOk result (builder.new ≡ record builder.old { paths = paths.items }) }
 {
