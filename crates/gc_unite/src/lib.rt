@@ -6,6 +6,8 @@
 mod assembling;
 mod claim;
 mod gathering;
+#[cfg(test)]
+mod tests;
 mod uniting;
 
 pub use uniting::unite;
