@@ -1,5 +1,5 @@
 -- One more element of an ascending list goes into a graph under construction.
-use Rattle.std.proofs.Common.{◌≡◌, ℕ, Bool, true, false, cond, not, ◌&&◌, ◌||◌, ◌==◌, List, [], ◌∷◌, ◌++◌, map, Option, Some, None, refl, sym, ap, ◌∙◌, subst, append_assoc}
+use Rattle.std.proofs.Common.{◌≡◌, ℕ, Bool, true, false, cond, not, ◌==◌, List, [], ◌∷◌, ◌++◌, map, Some, None, refl, sym, ap, ◌∙◌, subst, append_assoc}
 use Rattle.std.specs.Cmp.{unsigned_tied}
 use Rattle.std.specs.List.{AllByRecursion, list_all}
 use Rattle.std.specs.Ordering.{nat_cmp, on, is_eq}
@@ -9,7 +9,7 @@ use Rattle.gc_base.specs.Ascending.{Ascends, with_item}
 use Rattle.gc_spec.specs.PropertyGraph.{PropertyGraph, Node, Edge, Path, ids_of, is_among, is_walk, node_ids, edge_ids, path_ids, node_order, edge_order, path_order}
 use Rattle.gc_ppg.specs.Built.{with_node, with_edge, with_path, missing_end}
 use Rattle.gc_sets.specs.Elements.{stands}
-use Rattle.gc_sets.proofs.NewIds.{neither, not_in_either, not_in_graph, or_not}
+use Rattle.gc_sets.proofs.NewIds.{not_in_either, not_in_graph, or_not}
 use Rattle.gc_sets.proofs.Sets.{before, with_item-last}
 use Rattle.gc_unite.specs.Wholes.{edge_fits, path_fits}
 

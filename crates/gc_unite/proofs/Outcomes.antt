@@ -2,7 +2,6 @@
 use Rattle.std.proofs.Common.{◌≡◌, ℕ, Bool, true, false, not, ◌&&◌, ◌||◌, ◌==◌, List, [], ◌∷◌, ◌++◌, map, Option, Some, None, refl, sym, ap, ◌∙◌, subst}
 use Rattle.std.specs.Cmp.{nat_eq_equiv}
 use Rattle.std.specs.List.{AllByRecursion, list_all}
-use Rattle.gc_base.proofs.Search.{AllByRecursion-weaker}
 use Rattle.gc_spec.specs.PropertyGraph.{PropertyGraph, Node, Edge, Path, IsGraph, IsEdge, IsPath, AreDistinct, ids_of, is_among, is_walk, node_ids, edge_ids, path_ids}
 use Rattle.gc_ppg.proofs.Collecting.{told_by_finds}
 use Rattle.gc_sets.specs.Descriptions.{united_node}

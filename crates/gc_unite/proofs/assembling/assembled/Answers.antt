@@ -1,4 +1,4 @@
-use Rattle.std.proofs.Common.{◌≡◌, rules, false, sym, ap, ◌∙◌}
+use Rattle.std.proofs.Common.{◌≡◌, rules, false, ap, ◌∙◌}
 use Rattle.std.specs.List.{list_all}
 use Rattle.gc_spec.specs.PropertyGraph.{PropertyGraph}
 use Rattle.gc_unite.specs.Wholes.{edge_fits, path_fits}
