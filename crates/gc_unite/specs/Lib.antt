@@ -1,1 +1,3 @@
 pub mod Claims
+pub mod Gathered
+pub mod Wholes

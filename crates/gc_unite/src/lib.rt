@@ -3,6 +3,11 @@
 //! no such graph. This crate knows of no query and no row.
 #![tactic(auto)]
 
+mod assembling;
+mod claim;
+mod gathering;
+#[cfg(test)]
+mod tests;
 mod uniting;
 
 pub use uniting::unite;

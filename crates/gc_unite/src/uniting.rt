@@ -1,6 +1,8 @@
-ghost use Rattle.std.specs.Prelude.{◌≡◌, IfOk};
+ghost use Rattle.std.specs.Prelude.{IfOk};
 ghost use Rattle.gc_unite.specs.Claims.{Claims, IsOutcome};
 
+use crate::assembling::assembled;
+use crate::gathering::gathered;
 use gc_base::Memory;
 use gc_ppg::{EdgeInfo, Graph, NodeInfo, PathInfo};
 use std::alloc::Global;
@@ -18,5 +20,8 @@ pub fn unite(
     ensures { let c : Claims = record { nodes = nodes.items; edges = edges.items; paths = paths.items } in
         IfOk result (IsOutcome c) }
 {
-    Err(Memory)
+    let nodes = gathered(nodes)?;
+    let edges = gathered(edges)?;
+    let paths = gathered(paths)?;
+    assembled(alloc, nodes, edges, paths)
 }
