@@ -1,6 +1,6 @@
 // What the tests make. On two rows the MATCH binds x to the nodes 1 and 2.
 use gc_base::{Id, LabelSet, Name, Properties, Sym};
-use gc_expr::{Expr, Fold};
+use gc_expr::Expr;
 use gc_ppg::{Graph, GraphBuilder, GraphList, Kind, NodeInfo};
 use gc_recipe::{
     Assignment, AssignmentList, Chain, ChainList, GraphNumbers, Grouping, LabelOf, LabelOfList,
@@ -17,7 +17,7 @@ const Z: Sym = Sym(1);
 
 const Y: Sym = Sym(2);
 
-pub(crate) fn id(number: u64) -> Result<Id, Fail> {
+fn id(number: u64) -> Result<Id, Fail> {
     Ok(Id::new(number).ok_or("an identity")?)
 }
 
@@ -151,5 +151,5 @@ pub(crate) fn without_source(alloc: Global) -> Result<Recipe, Fail> {
 
 /// `COUNT(*)`
 pub(crate) fn count() -> Expr {
-    Expr::aggregate(0, Fold::Rows, None)
+    Expr::rows(0)
 }

@@ -1,2 +1,0 @@
-//! What the items of a CONSTRUCT ask to be made.
-#![tactic(auto)]
