@@ -1,5 +1,3 @@
-ghost use Rattle.std.specs.Prelude.{◌≡◌};
-
 use gc_base::Memory;
 use gc_values::Why;
 
@@ -21,6 +19,9 @@ pub enum Refusal {
 }
 
 impl From<Memory> for Refusal {
+    ghost use Rattle.std.specs.Prelude.{◌≡◌};
+    ghost use Rattle.gc_describe.specs.declared.fault.Refusal.TheVariants.{Memory};
+
     ghost from_gives = { λ _ refusal. refusal ≡ Memory };
 
     fn from(_want: Memory) -> Refusal {

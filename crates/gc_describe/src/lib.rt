@@ -3,9 +3,12 @@
 //! as the definition says. This crate groups no rows and knows of no graph that is made.
 #![tactic(auto)]
 
+mod aggregates;
+mod assigned;
 mod described;
 mod describing;
 mod fault;
+mod starts;
 
 pub use described::{Described, DescribedList, Description, DescriptionList};
 pub use describing::describe;
