@@ -1,1 +1,3 @@
+pub mod AssignedLaws
 pub mod Chains
+pub mod FaultLaws

@@ -1,7 +1,7 @@
 ghost use Rattle.std.specs.Prelude.{◌≡◌, map, slice_get, IfOk};
 ghost use Rattle.std.specs.Option.{option_copied};
-ghost use Rattle.gc_describe.specs.Aggregates.{aggregated, operand_value};
-ghost use Rattle.gc_describe.specs.Assigned.{contexts, row_at};
+ghost use Rattle.gc_describe.specs.Aggregates.{aggregated, aggregations, operand_value};
+ghost use Rattle.gc_describe.specs.Assigned.{assigned_values, contexts, row_at};
 ghost use Rattle.gc_describe.specs.Standing.{plain};
 ghost use Rattle.gc_expr.specs.Views.{numbered_expr};
 ghost use Rattle.gc_numbering.specs.Settings.{on_row};
@@ -12,6 +12,7 @@ use gc_base::{Memory, Steps, ValueSet};
 use gc_expr::Expr;
 use gc_group::fold;
 use gc_numbering::Setting;
+use gc_recipe::Assignment;
 use gc_rows::Row;
 use gc_values::{MadeList, Val, ValList, value};
 use std::sync::ledger::Ledger;
@@ -23,19 +24,20 @@ pub(crate) fn row_at<'a>(setting: &'a Setting<'_>, place: u64) -> Option<&'a Row
     setting.table.rows().as_slice().get(place as usize)
 }
 
-/// The values of an expression with these aggregates on the rows of a group.
-pub(crate) fn values_over<L: Ledger>(
+/// The values of an assignment on the rows of a group. It takes the aggregates of its expression.
+#[tactic(auto, using(crate::proofs::AssignedLaws::values_assigned))]
+pub(crate) fn assigned_values<L: Ledger>(
     setting: &Setting<'_>,
-    expr: &Expr,
+    assignment: &Assignment,
     aggregates: &[Aggregate<'_>],
     places: &[u64],
     steps: &mut Steps<L>,
 ) -> Result<Vec<Val>, Memory>
-    ensures { let rows = contexts setting.now places.now in
-        IfOk result (λ values. values.items ≡ map (λ ctx. value_of ctx (map (aggregated rows) (map plain aggregates.now)) (numbered_expr expr.now)) rows) }
+    requires { map plain aggregates.now ≡ aggregations (numbered_expr assignment.now.value) }
+    ensures { IfOk result (λ values. values.items ≡ assigned_values setting.now assignment.now places.now) }
 {
     let folded = all_aggregated(setting, aggregates, places, steps)?;
-    values_at(setting, expr, places, &folded, steps)
+    values_at(setting, &assignment.value, places, &folded, steps)
 }
 
 // The values of aggregates over the rows of a group.

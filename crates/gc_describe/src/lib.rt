@@ -8,6 +8,8 @@ mod assigned;
 mod described;
 mod describing;
 mod fault;
+mod faults;
+mod givens;
 mod starts;
 
 pub use described::{Described, DescribedList, Description, DescriptionList};
