@@ -5,6 +5,7 @@
 
 mod aggregates;
 mod assigned;
+mod changes;
 mod described;
 mod describing;
 mod fault;

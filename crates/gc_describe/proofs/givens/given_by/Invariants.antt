@@ -1,6 +1,6 @@
 use Rattle.std.proofs.Common.{◌≡◌, None, fold, map, take}
 use Rattle.std.specs.List.{flat_map}
-use Rattle.gc_describe.specs.Faults.{elements_of, faults_in, lesser}
+use Rattle.gc_describe.specs.Faults.{faults_in, lesser}
 use Rattle.gc_describe.specs.Givens.{given_to}
 use Rattle.gc_describe.proofs.givens.given_by.Given as goal
 
