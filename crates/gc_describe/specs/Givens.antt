@@ -1,5 +1,5 @@
 -- What each assignment gives to all elements of its variable.
-use Rattle.std.specs.Prelude.{◌≡◌, ℕ, List, [], map, Result, Ok, Err, None, Some, slice_get, ⊤}
+use Rattle.std.specs.Prelude.{◌≡◌, ℕ, List, [], map, fold, Result, Ok, Err, None, Some, slice_get, ⊤}
 use Rattle.std.specs.Option.{unwrap_or}
 use Rattle.gc_base.specs.PropertyLists.{put}
 use Rattle.gc_base.specs.declared.literal.Literal.{Literal}
@@ -9,8 +9,11 @@ use Rattle.gc_numbering.specs.Settings.{Setting}
 use Rattle.gc_numbering.specs.declared.numbered.Element.{Element}
 use Rattle.gc_numbering.specs.declared.numbered.Numbered.{Numbered}
 use Rattle.gc_recipe.specs.declared.change.Assignment.{Assignment}
+use Rattle.gc_recipe.specs.declared.recipe.Recipe.{Recipe}
+use Rattle.gc_recipe.specs.declared.variable.Variable.{Variable}
 use Rattle.gc_values.specs.Descriptions.{Description}
 use Rattle.gc_describe.specs.Assigned.{assigned}
+use Rattle.gc_describe.specs.Described.{of_variable, start_of, with_label, without_label, without_property}
 use Rattle.gc_describe.specs.Faults.{elements_of, fault_of, first_fault}
 use Rattle.gc_describe.specs.declared.fault.Refusal.{Refusal}
 use Rattle.gc_describe.specs.declared.fault.Refusal.TheVariants as refusal
@@ -44,3 +47,14 @@ GiveAll s variables assignments (Err refusal.Memory) = ⊤
 -- a description with what is given to the element at a place
 abbrev pub with_given : ℕ → Description → Given → Description
 with_given place d g = record d { properties = put d.properties (record { name = g.property; values = unwrap_or (slice_get g.values place) [] }) }
+
+-- the element at a place among those of a variable, where all assignments give this
+abbrev pub described_with : Setting → Recipe → List Given → Variable → ℕ → Element → Description
+described_with s r givens v place e =
+    fold without_property
+      (fold without_label
+        (fold (with_given place)
+          (fold with_label (start_of s v.start e.group.rows) (of_variable (λ l. l.var) v.var r.labels))
+          (of_variable (λ g. g.var) v.var givens))
+        (of_variable (λ l. l.var) v.var r.lost_labels))
+      (of_variable (λ p. p.var) v.var r.lost_properties)
