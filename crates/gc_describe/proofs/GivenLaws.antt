@@ -47,9 +47,10 @@ described_at s r variables v place e h i =
     (λ d a t. ap (λ values. record d { properties = put d.properties (record { name = a.property; values = values }) }) (given_at s variables a v.var place e t h i))
     (fold with_label (start_of s v.start e.group.rows) (of_variable (λ l. l.var) v.var r.labels)) r.assignments.items)
 
-pub described_so : (s : Setting) (r : Recipe) (variables : List Numbered) (givens : List Given) (v : Variable) (elements : List Element) (place : ℕ) (e : Element)
+pub described_so : (s : Setting) (r : Recipe) (variables : List Numbered) (givens : List Given) (v : Variable) (elements : List Element) (place : ℕ) (e : Element) (d : Description)
     → givens ≡ map (given s variables) r.assignments.items → elements ≡ elements_of variables v.var → place < length elements → e ≡ get_or elements place e
-    → described_with s r givens v place e ≡ described s r v e
-described_so s r variables givens v elements place e g own h i =
-    ap (λ gs. described_with s r gs v place e) g
+    → d ≡ described_with s r givens v place e → d ≡ described s r v e
+described_so s r variables givens v elements place e d g own h i so =
+    so
+    ∙ ap (λ gs. described_with s r gs v place e) g
     ∙ described_at s r variables v place e (subst (λ es. place < length es) own h) (i ∙ ap (λ es. get_or es place e) own)

@@ -1,4 +1,3 @@
-use Rattle.std.proofs.Common.{◌∙◌}
 use Rattle.gc_describe.specs.Described.{described}
 use Rattle.gc_describe.proofs.AssignedLaws.{map_with}
 use Rattle.gc_describe.proofs.GivenLaws.{described_so}
@@ -12,6 +11,9 @@ loop-place-preserved g c =
     let elements = c.elements_of-elements.result.now in
     let place = c.loop-place.place in
     let e = c.index-elements-place.result in
-    let so = described_so s r c.args.numbering.now.variables c.args.givens.now v elements place e c.requires c.elements_of-elements.ensures c.loop-place-test.true c.index-elements-place.is in
-    map_with (described s r v) c.loop-place.all c.push.new.self elements place e c.in_ok-described_at.field-0
-    c.loop-place-test.true c.index-elements-place.is c.loop-place.invariant (c.in_ok-described_at.ensures ∙ so) c.in_ok-push.ensures.ok
+    let d = c.in_ok-described_at.field-0 in
+    let so =
+        described_so s r c.args.numbering.now.variables c.args.givens.now v elements place e d
+        c.requires c.elements_of-elements.ensures c.loop-place-test.true c.index-elements-place.is c.in_ok-described_at.ensures in
+    map_with (described s r v) c.loop-place.all c.push.new.self elements place e d
+    c.loop-place-test.true c.index-elements-place.is c.loop-place.invariant so c.in_ok-push.ensures.ok
