@@ -2,3 +2,5 @@ pub mod Aggregates
 pub mod Assigned
 pub mod Described
 pub mod Faults
+pub mod Givens
+pub mod Standing

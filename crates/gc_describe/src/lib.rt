@@ -3,9 +3,19 @@
 //! as the definition says. This crate groups no rows and knows of no graph that is made.
 #![tactic(auto)]
 
+mod aggregates;
+mod assigned;
+mod changes;
 mod described;
 mod describing;
+#[cfg(test)]
+mod example;
 mod fault;
+mod faults;
+mod givens;
+mod starts;
+#[cfg(test)]
+mod tests;
 
 pub use described::{Described, DescribedList, Description, DescriptionList};
 pub use describing::describe;

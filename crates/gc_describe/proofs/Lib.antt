@@ -1,0 +1,4 @@
+pub mod AssignedLaws
+pub mod Chains
+pub mod FaultLaws
+pub mod GivenLaws
