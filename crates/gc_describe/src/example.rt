@@ -114,7 +114,7 @@ pub(crate) fn numbering(alloc: Global, first: &[u64], second: &[u64]) -> Result<
     variables.push(Numbered {
         var: M,
         elements: elements(alloc, first, second)?,
-        numbers: Sequence::new(alloc),
+        which: Sequence::new(alloc),
     })?;
     Ok(Numbering { next: 2, variables })
 }
