@@ -97,9 +97,10 @@ in_items graphs numbers all = flat_map (λ number. in_graph all (slice_get graph
 -- all that is claimed: the elements of kept instances, the nodes and edges of their walks, and the graphs that are items
 abbrev pub claims_with : Making → List Kept → (graphs : List ℕ) → Claims
 claims_with m kept graphs = record {
-    nodes = flat_map (claims_for m kept kind.Node (node_claims m)) m.variables ++ flat_map (walk_nodes m kept) (walked kept m.variables) ++ in_items m.setting.graphs graphs (λ g. g.nodes);
-    edges = flat_map (claims_for m kept kind.Edge (edge_claims m)) m.variables ++ flat_map (walk_edges m kept) (walked kept m.variables) ++ in_items m.setting.graphs graphs (λ g. g.edges);
-    paths = flat_map (claims_for m kept kind.Path (path_claims m)) m.variables ++ in_items m.setting.graphs graphs (λ g. g.paths) }
+  nodes = flat_map (claims_for m kept kind.Node (node_claims m)) m.variables ++ flat_map (walk_nodes m kept) (walked kept m.variables) ++ in_items m.setting.graphs graphs (λ g. g.nodes);
+  edges = flat_map (claims_for m kept kind.Edge (edge_claims m)) m.variables ++ flat_map (walk_edges m kept) (walked kept m.variables) ++ in_items m.setting.graphs graphs (λ g. g.edges);
+  paths = flat_map (claims_for m kept kind.Path (path_claims m)) m.variables ++ in_items m.setting.graphs graphs (λ g. g.paths);
+}
 
 abbrev pub all_claims : Making → List Chain → (graphs : List ℕ) → Claims
 all_claims m chains graphs = claims_with m (map (kept_of m) chains) graphs

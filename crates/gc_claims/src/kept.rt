@@ -51,7 +51,8 @@ impl Kept<'_> {
     fn has_walk(&self, path: Sym, place: usize) -> bool
         ensures { result ≡ ((lists self.now.places path || lists self.now.projected path) && is_kept place self.now) }
     {
-        let is_listed = lists(self.places.as_slice(), path) || lists(self.projected.as_slice(), path);
+        let is_listed = lists(self.places.as_slice(), path)
+            || lists(self.projected.as_slice(), path);
         is_listed && self.is_kept(place)
     }
 }
@@ -110,7 +111,8 @@ pub(crate) fn is_claimed(kept: &[Kept<'_>], var: Sym, element: &Element) -> bool
     ensures { result ≡ is_claimed kept.now var element.now }
 {
     let rows = element.group.rows.as_slice();
-    rows.iter().any(|row| has_instance(kept, var, *row as usize))
+    rows.iter()
+        .any(|row| has_instance(kept, var, *row as usize))
 }
 
 // Whether an instance on the row at a place is kept that has a variable.

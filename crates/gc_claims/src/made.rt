@@ -19,11 +19,7 @@ pub(crate) fn all_made(making: &Making<'_>, place: usize) -> Result<MadeList, Me
 }
 
 // Each of these variables as the row at a place makes it.
-fn each_made(
-    making: &Making<'_>,
-    variables: &[Variable],
-    place: usize,
-) -> Result<Vec<Made>, Memory>
+fn each_made(making: &Making<'_>, variables: &[Variable], place: usize) -> Result<Vec<Made>, Memory>
     ensures { IfOk result (λ made. made.items ≡ map (made_at making.now place) variables.now) }
 {
     let setting = making.setting;

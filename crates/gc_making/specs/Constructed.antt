@@ -32,11 +32,12 @@ fault s r = first_fault s (elements s r) r.assignments.items
 -- what is made: the elements with their descriptions, new ones with identities from the next one on
 abbrev pub made : Setting → Recipe → (next : ℕ) → Making
 made s r next = record {
-    setting = s;
-    variables = r.variables;
-    numbered = elements s r;
-    described = map (described_variable s r (elements s r)) r.variables;
-    next = next }
+  setting = s;
+  variables = r.variables;
+  numbered = elements s r;
+  described = map (described_variable s r (elements s r)) r.variables;
+  next = next;
+}
 
 abbrev pub claims : Setting → Recipe → (next : ℕ) → Claims
 claims s r next = all_claims (made s r next) r.chains.items r.graphs

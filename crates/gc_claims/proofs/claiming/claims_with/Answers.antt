@@ -13,4 +13,5 @@ returns g c =
     λ j. record {
       nodes = (c.in_ok-all_claimed.ensures ∙ ap (λ ps. flat_map (claims_for m kept kind.Node (node_claims m)) m.variables ++ flat_map (walk_nodes m kept) ps ++ in_items m.setting.graphs graphs (λ g. g.nodes)) c.requires) j;
       edges = (c.in_ok-all_claimed-2.ensures ∙ ap (λ ps. flat_map (claims_for m kept kind.Edge (edge_claims m)) m.variables ++ flat_map (walk_edges m kept) ps ++ in_items m.setting.graphs graphs (λ g. g.edges)) c.requires) j;
-      paths = c.in_ok-paths_claimed.ensures j }
+      paths = c.in_ok-paths_claimed.ensures j;
+    }
