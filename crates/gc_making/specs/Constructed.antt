@@ -1,9 +1,9 @@
 -- The graph that a CONSTRUCT makes of a table, or the fault that it ends in.
 use Rattle.std.specs.Prelude.{◌≡◌, ℕ, ◌+◌, ◌<◌, ◌≤◌, List, map, Option, Some, None, Result, Ok, Err, ⊤}
 use Rattle.gc_claims.specs.Claimed.{all_claims}
-use Rattle.gc_claims.specs.Makings.{Making}
 use Rattle.gc_describe.specs.Described.{described_variable}
 use Rattle.gc_describe.specs.Faults.{first_fault}
+use Rattle.gc_describe.specs.declared.described.Described.{Described}
 use Rattle.gc_describe.specs.declared.fault.Fault.{Fault}
 use Rattle.gc_numbering.specs.Numbers.{numbering}
 use Rattle.gc_numbering.specs.Settings.{Setting}
@@ -29,18 +29,13 @@ needed s r = (numbering s r.variables).next
 abbrev pub fault : Setting → Recipe → Option Fault
 fault s r = first_fault s (elements s r) r.assignments.items
 
--- what is made: the elements with their descriptions, new ones with identities from the next one on
-abbrev pub made : Setting → Recipe → (next : ℕ) → Making
-made s r next = record {
-  setting = s;
-  variables = r.variables;
-  numbered = elements s r;
-  described = map (described_variable s r (elements s r)) r.variables;
-  next = next;
-}
+-- what is claimed, where the variables have these elements with these descriptions, and new ones have identities from the next one on
+abbrev pub claims_by : Setting → Recipe → (next : ℕ) → List Numbered → List Described → Claims
+claims_by s r next numbered described =
+    all_claims (record { setting = s; variables = r.variables; numbered = numbered; described = described; next = next }) r.chains.items r.graphs
 
 abbrev pub claims : Setting → Recipe → (next : ℕ) → Claims
-claims s r next = all_claims (made s r next) r.chains.items r.graphs
+claims s r next = claims_by s r next (elements s r) (map (described_variable s r (elements s r)) r.variables)
 
 -- the identity behind so many new ones; they suffice where it is at most one more than the largest
 abbrev pub IsAfter : (next count : ℕ) → Option ℕ → Type 0

@@ -1,13 +1,13 @@
-ghost use Rattle.std.specs.Prelude.{IfOk};
-ghost use Rattle.gc_claims.specs.Claimed.{all_claims};
-ghost use Rattle.gc_making.specs.Constructed.{Constructs, IsAfter};
+ghost use Rattle.std.specs.Prelude.{◌≡◌, IfOk};
+ghost use Rattle.gc_claims.specs.Claimed.{seen};
+ghost use Rattle.gc_making.specs.Constructed.{Constructs, IsAfter, claims_by};
 ghost use Rattle.gc_unite.specs.Claims.{IsOutcome};
 
 use crate::built::{Built, Refusal};
 use gc_base::{Memory, Steps};
-use gc_claims::{Making, claims};
-use gc_describe::{Refusal as DescribeRefusal, describe};
-use gc_numbering::{Setting, number};
+use gc_claims::{Claims, Making, claims};
+use gc_describe::{DescribedList, Refusal as DescribeRefusal, describe};
+use gc_numbering::{Numbering, Setting, number};
 use gc_ppg::Graph;
 use gc_recipe::Recipe;
 use gc_unite::unite;
@@ -37,14 +37,7 @@ pub fn construct<L: Ledger>(
     let Some(after) = after(next, numbering.next) else {
         return Err(Refusal::IdsSpent(numbering.next));
     };
-    let making = Making {
-        setting,
-        variables: recipe.variables.as_slice(),
-        numbered: numbering.variables.as_slice(),
-        described: described.as_slice(),
-        next,
-    };
-    match united(&making, recipe, steps)? {
+    match united(setting, recipe, &numbering, &described, next, steps)? {
         None => Ok(None),
         Some(graph) => Ok(Some(Built { graph, next: after })),
     }
@@ -63,13 +56,36 @@ fn after(next: u64, needed: u64) -> Option<u64>
 
 // The graph of what is claimed, if there is one.
 fn united<L: Ledger>(
-    making: &Making<'_>,
+    setting: &Setting<'_>,
     recipe: &Recipe,
+    numbering: &Numbering,
+    described: &DescribedList,
+    next: u64,
     steps: &mut Steps<L>,
 ) -> Result<Option<Graph>, Memory>
-    ensures { IfOk result (IsOutcome (all_claims making.now recipe.now.chains.items recipe.now.graphs)) }
+    ensures { IfOk result (IsOutcome (claims_by setting.now recipe.now next numbering.now.variables described.now)) }
 {
-    let claims = claims(making, &recipe.chains, recipe.graphs.as_slice(), steps)?;
-    let setting = making.setting;
+    let claims = claimed(setting, recipe, numbering, described, next, steps)?;
     unite(setting.alloc, claims.nodes, claims.edges, claims.paths)
+}
+
+// What is claimed.
+fn claimed<L: Ledger>(
+    setting: &Setting<'_>,
+    recipe: &Recipe,
+    numbering: &Numbering,
+    described: &DescribedList,
+    next: u64,
+    steps: &mut Steps<L>,
+) -> Result<Claims, Memory>
+    ensures { IfOk result (λ claims. seen claims ≡ claims_by setting.now recipe.now next numbering.now.variables described.now) }
+{
+    let making = Making {
+        setting,
+        variables: recipe.variables.as_slice(),
+        numbered: numbering.variables.as_slice(),
+        described: described.as_slice(),
+        next,
+    };
+    claims(&making, &recipe.chains, recipe.graphs.as_slice(), steps)
 }
