@@ -58,12 +58,12 @@ of_variable var x items = filter (λ item. (var item).0 == x.0) items
 abbrev pub done : Setting → Recipe → Sym → List ℕ → Description → Description
 done s r x places start =
     fold without_property
-      (fold without_label
-        (fold (with_assigned s places)
-          (fold with_label start (of_variable (λ l. l.var) x r.labels))
-          (of_variable (λ a. a.var) x r.assignments.items))
-        (of_variable (λ l. l.var) x r.lost_labels))
-      (of_variable (λ p. p.var) x r.lost_properties)
+    (fold without_label
+    (fold (with_assigned s places)
+    (fold with_label start (of_variable (λ l. l.var) x r.labels))
+    (of_variable (λ a. a.var) x r.assignments.items))
+    (of_variable (λ l. l.var) x r.lost_labels))
+    (of_variable (λ p. p.var) x r.lost_properties)
 
 -- an element of a variable
 abbrev pub described : Setting → Recipe → Variable → Element → Description

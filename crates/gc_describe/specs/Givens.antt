@@ -52,9 +52,9 @@ with_given place d g = record d { properties = put d.properties (record { name =
 abbrev pub described_with : Setting → Recipe → List Given → Variable → ℕ → Element → Description
 described_with s r givens v place e =
     fold without_property
-      (fold without_label
-        (fold (with_given place)
-          (fold with_label (start_of s v.start e.group.rows) (of_variable (λ l. l.var) v.var r.labels))
-          (of_variable (λ g. g.var) v.var givens))
-        (of_variable (λ l. l.var) v.var r.lost_labels))
-      (of_variable (λ p. p.var) v.var r.lost_properties)
+    (fold without_label
+    (fold (with_given place)
+    (fold with_label (start_of s v.start e.group.rows) (of_variable (λ l. l.var) v.var r.labels))
+    (of_variable (λ g. g.var) v.var givens))
+    (of_variable (λ l. l.var) v.var r.lost_labels))
+    (of_variable (λ p. p.var) v.var r.lost_properties)

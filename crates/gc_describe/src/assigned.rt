@@ -146,5 +146,14 @@ fn value_on<L: Ledger>(
 {
     let alloc = setting.alloc;
     let made = MadeList::new(alloc);
-    value(alloc, expr, row, setting.reads, setting.graphs, &made, folded, steps)
+    value(
+        alloc,
+        expr,
+        row,
+        setting.reads,
+        setting.graphs,
+        &made,
+        folded,
+        steps,
+    )
 }

@@ -89,6 +89,11 @@ fn described_at<L: Ledger>(
     add_labels(&mut description, var, recipe.labels.as_slice())?;
     give(alloc, &mut description, var, place, givens)?;
     remove_labels(&mut description, var, recipe.lost_labels.as_slice());
-    remove_properties(alloc, &mut description, var, recipe.lost_properties.as_slice())?;
+    remove_properties(
+        alloc,
+        &mut description,
+        var,
+        recipe.lost_properties.as_slice(),
+    )?;
     Ok(description)
 }

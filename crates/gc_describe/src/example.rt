@@ -6,8 +6,8 @@ use gc_group::{Group, Key, KeyParts, RowNumbers};
 use gc_numbering::{Element, Numbered, Numbering};
 use gc_ppg::{Graph, GraphBuilder, GraphList, Kind, NodeInfo};
 use gc_recipe::{
-    Assignment, AssignmentList, ChainList, GraphNumbers, Grouping, LabelOf, LabelOfList, PropertyOf,
-    PropertyOfList, Recipe, Variable, VariableList,
+    Assignment, AssignmentList, ChainList, GraphNumbers, Grouping, LabelOf, LabelOfList,
+    PropertyOf, PropertyOfList, Recipe, Variable, VariableList,
 };
 use gc_rows::{Datum, Row, RowList, SymList, Table};
 use gc_values::{ReadUse, Reads};

@@ -6,6 +6,6 @@ use Rattle.gc_describe.proofs.givens.all_given.Given as goal
 -- the assignments so far have no fault
 abbrev pub invariant-loop-assignment : goal.invariant-loop-assignment
 invariant-loop-assignment g l = record {
-    given : l.all ≡ map (given l.setting l.numbering.variables) (take l.assignment-index l.assignments);
-    faults : first_fault l.setting l.numbering.variables (drop l.assignment-index l.assignments) ≡ first_fault l.setting l.numbering.variables l.assignments;
+  given : l.all ≡ map (given l.setting l.numbering.variables) (take l.assignment-index l.assignments);
+  faults : first_fault l.setting l.numbering.variables (drop l.assignment-index l.assignments) ≡ first_fault l.setting l.numbering.variables l.assignments;
 }

@@ -16,16 +16,16 @@ loop-element-preserved g c =
     let values : c.in_ok-on_rows.on_rows.items ≡ assigned_values s a rows = c.in_ok-on_rows.ensures ∙ ap (assigned_values s a) c.as_slice-places.ensures in
     record {
       given =
-        map_with (given_to s a) c.loop-element.values c.push.new.self
-        c.elements_of-element-items.result.now c.loop-element.element-index c.element-item.result c.in_ok-collected.field-0
-        c.loop-element-test.true c.element-item.is c.loop-element.invariant.given
-        (c.in_ok-collected.ensures ∙ ap (λ vs. literals_of (folded Collect vs)) (c.deref-in-loop-element-2.ensures.value ∙ values))
-        c.in_ok-push.ensures.ok;
+          map_with (given_to s a) c.loop-element.values c.push.new.self
+          c.elements_of-element-items.result.now c.loop-element.element-index c.element-item.result c.in_ok-collected.field-0
+          c.loop-element-test.true c.element-item.is c.loop-element.invariant.given
+          (c.in_ok-collected.ensures ∙ ap (λ vs. literals_of (folded Collect vs)) (c.deref-in-loop-element-2.ensures.value ∙ values))
+          c.in_ok-push.ensures.ok;
       least =
-        least_with (faults_in s a) c.loop-element.least c.least_fault-least.result
-        c.elements_of-element-items.result.now c.loop-element.element-index c.element-item.result
-        c.loop-element-test.true c.element-item.is c.loop-element.invariant.least
-        (c.least_fault-least.ensures
-        ∙ ap (λ ps. fold lesser c.loop-element.least (faults_among a ps c.deref-in-loop-element.result.now)) c.as_slice-places.ensures
-        ∙ ap (λ vs. fold lesser c.loop-element.least (faults_among a rows vs)) (c.deref-in-loop-element.ensures.value ∙ values));
+          least_with (faults_in s a) c.loop-element.least c.least_fault-least.result
+          c.elements_of-element-items.result.now c.loop-element.element-index c.element-item.result
+          c.loop-element-test.true c.element-item.is c.loop-element.invariant.least
+          (c.least_fault-least.ensures
+          ∙ ap (λ ps. fold lesser c.loop-element.least (faults_among a ps c.deref-in-loop-element.result.now)) c.as_slice-places.ensures
+          ∙ ap (λ vs. fold lesser c.loop-element.least (faults_among a rows vs)) (c.deref-in-loop-element.ensures.value ∙ values));
     }

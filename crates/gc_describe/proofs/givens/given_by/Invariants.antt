@@ -7,6 +7,6 @@ use Rattle.gc_describe.proofs.givens.given_by.Given as goal
 -- what the elements so far are given, and the fault at the least of their rows
 abbrev pub invariant-loop-element : goal.invariant-loop-element
 invariant-loop-element g l = record {
-    given : l.values ≡ map (given_to l.setting l.assignment) (take l.element-index l.element-items);
-    least : l.least ≡ fold lesser None (flat_map (faults_in l.setting l.assignment) (take l.element-index l.element-items));
+  given : l.values ≡ map (given_to l.setting l.assignment) (take l.element-index l.element-items);
+  least : l.least ≡ fold lesser None (flat_map (faults_in l.setting l.assignment) (take l.element-index l.element-items));
 }
