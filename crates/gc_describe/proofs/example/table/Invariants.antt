@@ -1,4 +1,3 @@
-use Rattle.std.proofs.Common.{[], ◌∷◌}
 use Rattle.std.specs.List.{AllByRecursion}
 use Rattle.gc_rows.specs.Rows.{IsOver}
 use Rattle.gc_describe.proofs.example.table.Given as goal
