@@ -1,7 +1,7 @@
 ghost use Rattle.std.specs.Prelude.{◌≡◌, ◌==◌, IfOk, slice_get};
 ghost use Rattle.std.specs.List.{find};
 ghost use Rattle.std.specs.Option.{option_and_then, option_copied};
-ghost use Rattle.gc_numbering.specs.Keys.{number_at, number_in, which_at, which_of};
+ghost use Rattle.gc_numbering.specs.Keys.{number_at, which_at};
 ghost use Rattle.gc_claims.specs.Makings.{descriptions_of, identity_at, identity_by, identity_of};
 ghost use Rattle.gc_describe.specs.Faults.{elements_of};
 ghost use Rattle.gc_claims.specs.Walks.{along_graph, read_graph};
@@ -78,7 +78,7 @@ impl Making<'_> {
     {
         match self.numbered(var) {
             None => None,
-            Some(numbered) => number_in(numbered, place),
+            Some(numbered) => numbered.number_in(place),
         }
     }
 
@@ -88,7 +88,7 @@ impl Making<'_> {
     {
         match self.numbered(var) {
             None => None,
-            Some(numbered) => which_of(numbered, place),
+            Some(numbered) => numbered.which_of(place),
         }
     }
 
@@ -178,28 +178,5 @@ impl Making<'_> {
     {
         let setting = self.setting;
         setting.graphs.as_slice().get(number as usize)
-    }
-}
-
-// Which of its elements the row at a place makes of a variable.
-fn which_of(numbered: &Numbered, place: usize) -> Option<usize>
-    ensures { result ≡ which_of place numbered.now }
-{
-    match numbered.which.as_slice().get(place) {
-        None => None,
-        Some(which) => *which,
-    }
-}
-
-// The number of that element.
-fn number_in(numbered: &Numbered, place: usize) -> Option<u64>
-    ensures { result ≡ number_in place numbered.now }
-{
-    match which_of(numbered, place) {
-        None => None,
-        Some(which) => match numbered.elements.as_slice().get(which) {
-            None => None,
-            Some(element) => Some(element.number),
-        },
     }
 }

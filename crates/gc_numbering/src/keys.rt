@@ -1,7 +1,7 @@
 ghost use Rattle.std.specs.Prelude.{◌≡◌, ◌==◌, ◌++◌, IfOk, OnOk, is_some, map};
 ghost use Rattle.std.specs.List.{find, list_all};
 ghost use Rattle.std.specs.Option.{option_copied};
-ghost use Rattle.gc_numbering.specs.Keys.{bound_key, end_part, id_of, key_by, keys_of, number_at, number_in, term_part, which_of, whole};
+ghost use Rattle.gc_numbering.specs.Keys.{bound_key, end_part, id_of, key_by, keys_of, number_at, term_part, whole};
 ghost use Rattle.gc_numbering.specs.Readers.{terms_of};
 ghost use Rattle.gc_numbering.specs.Settings.{on_row};
 ghost use Rattle.gc_rows.specs.Rows.{cells};
@@ -123,30 +123,7 @@ fn number_at(before: &[Numbered], var: Sym, place: usize) -> Option<u64>
 {
     match numbered(before, var) {
         None => None,
-        Some(variable) => number_in(variable, place),
-    }
-}
-
-// The number of the element that the row at a place makes of a variable.
-fn number_in(variable: &Numbered, place: usize) -> Option<u64>
-    ensures { result ≡ number_in place variable.now }
-{
-    match which_of(variable, place) {
-        None => None,
-        Some(which) => match variable.elements.as_slice().get(which) {
-            None => None,
-            Some(element) => Some(element.number),
-        },
-    }
-}
-
-// Which of its elements the row at a place makes of a variable.
-fn which_of(variable: &Numbered, place: usize) -> Option<usize>
-    ensures { result ≡ which_of place variable.now }
-{
-    match variable.which.as_slice().get(place) {
-        None => None,
-        Some(which) => *which,
+        Some(variable) => variable.number_in(place),
     }
 }
 

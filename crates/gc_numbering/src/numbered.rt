@@ -1,3 +1,6 @@
+ghost use Rattle.std.specs.Prelude.{◌≡◌};
+ghost use Rattle.gc_numbering.specs.Keys.{number_in, which_of};
+
 use gc_base::{Sequence, Sym};
 use gc_group::Group;
 
@@ -16,6 +19,31 @@ pub struct Numbered {
     pub elements: ElementList,
     /// For each row of the table, in order, which of the elements it makes, if it makes one.
     pub which: RowElements,
+}
+
+impl Numbered {
+    /// Which of its elements the row at a place of the table makes, if it makes one.
+    pub fn which_of(&self, place: usize) -> Option<usize>
+        ensures { result ≡ which_of place self.now }
+    {
+        match self.which.as_slice().get(place) {
+            None => None,
+            Some(which) => *which,
+        }
+    }
+
+    /// The number of that element.
+    pub fn number_in(&self, place: usize) -> Option<u64>
+        ensures { result ≡ number_in place self.now }
+    {
+        match self.which_of(place) {
+            None => None,
+            Some(which) => match self.elements.as_slice().get(which) {
+                None => None,
+                Some(element) => Some(element.number),
+            },
+        }
+    }
 }
 
 /// The variables of a CONSTRUCT in their order.
