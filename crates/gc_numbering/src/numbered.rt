@@ -1,6 +1,3 @@
-ghost use Rattle.std.specs.Prelude.{◌≡◌};
-ghost use Rattle.gc_numbering.specs.Keys.{number_in, which_of};
-
 use gc_base::{Sequence, Sym};
 use gc_group::Group;
 
@@ -22,6 +19,9 @@ pub struct Numbered {
 }
 
 impl Numbered {
+    ghost use Rattle.std.specs.Prelude.{◌≡◌};
+    ghost use Rattle.gc_numbering.specs.Keys.{number_in, which_of};
+
     /// Which of its elements the row at a place of the table makes, if it makes one.
     pub fn which_of(&self, place: usize) -> Option<usize>
         ensures { result ≡ which_of place self.now }
