@@ -16,7 +16,8 @@ module _ (s : Setting) (r : Recipe) (next : ℕ) (n : Numbering) (is : n ≡ num
   sound : IsSound s r next
   sound = record {
     defined = subst (λ m. first_fault s m.variables r.assignments.items ≡ None) is defined;
-    room = subst (λ m. next + m.next ≤ 9007199254740992) is (subst (λ k. k ≤ 9007199254740992) fits.0 fits.1) }
+    room = subst (λ m. next + m.next ≤ 9007199254740992) is (subst (λ k. k ≤ 9007199254740992) fits.0 fits.1);
+  }
 
   module _ (d : List Described) (same : d ≡ map (described_variable s r n.variables) r.variables) where
     same_claims : claims_by s r next n.variables d ≡ claims s r next
@@ -28,9 +29,11 @@ module _ (s : Setting) (r : Recipe) (next : ℕ) (n : Numbering) (is : n ≡ num
     built g claimed = record {
       sound = sound;
       graph = subst (λ c. IsClaimed c g) same_claims claimed;
-      after = fits.0 ∙ ap (λ m. next + m.next) is }
+      after = fits.0 ∙ ap (λ m. next + m.next) is;
+    }
 
     pub unfit : ((g : PropertyGraph) → IsClaimed (claims_by s r next n.variables d) g → ⊥) → IsUnfit s r next
     unfit none = record {
       sound = sound;
-      none = λ g claimed. none g (subst (λ c. IsClaimed c g) (sym same_claims) claimed) }
+      none = λ g claimed. none g (subst (λ c. IsClaimed c g) (sym same_claims) claimed);
+    }
