@@ -5,10 +5,6 @@
 
 mod built;
 mod constructing;
-#[cfg(test)]
-mod example;
-#[cfg(test)]
-mod tests;
 
 pub use built::{Built, Refusal};
 pub use constructing::construct;
