@@ -12,8 +12,8 @@ use Rattle.gc_values.specs.declared.val.Val.TheVariants.{Undefined}
 use Rattle.gc_describe.specs.Assigned.{assigned_values}
 use Rattle.gc_describe.specs.declared.fault.Fault.{Fault}
 
--- Take `{a := x.k / 0}, {b := x.k + TRUE}` on rows 0 and 1, of which row 0 has no k: the fault is ZeroDivisor at the first
--- assignment and row 1.
+-- Take `{a := x.k / 0}, {b := x.k + TRUE}` on two rows, of which the first has no k: the fault is ZeroDivisor at the first
+-- assignment, on the second of them.
 
 -- the elements of a variable
 abbrev pub listed_elements : Option Numbered → List Element
