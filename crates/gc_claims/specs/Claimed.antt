@@ -4,15 +4,15 @@ use Rattle.std.specs.List.{flat_map}
 use Rattle.std.specs.Option.{option_map, option_and_then, unwrap_or}
 use Rattle.gc_base.specs.declared.place.Sym.{Sym}
 use Rattle.gc_base.specs.declared.walk.Walk.{Walk}
-use Rattle.gc_describe.specs.Faults.{elements_of}
-use Rattle.gc_numbering.specs.Settings.{Setting, on_row}
-use Rattle.gc_numbering.specs.declared.numbered.Element.{Element}
+use Rattle.gc_build_descriptions.specs.Faults.{elements_of}
+use Rattle.gc_build_numbers.specs.Settings.{Setting, on_row}
+use Rattle.gc_build_numbers.specs.declared.numbered.Element.{Element}
 use Rattle.gc_ppg.specs.declared.shape.Kind.{Kind}
 use Rattle.gc_ppg.specs.declared.shape.Kind.TheVariants as kind
-use Rattle.gc_recipe.specs.declared.chain.Chain.{Chain}
-use Rattle.gc_recipe.specs.declared.variable.Grouping.{Grouping}
-use Rattle.gc_recipe.specs.declared.variable.Grouping.TheVariants as by
-use Rattle.gc_recipe.specs.declared.variable.Variable.{Variable}
+use Rattle.gc_build_recipe.specs.declared.chain.Chain.{Chain}
+use Rattle.gc_build_recipe.specs.declared.variable.Grouping.{Grouping}
+use Rattle.gc_build_recipe.specs.declared.variable.Grouping.TheVariants as by
+use Rattle.gc_build_recipe.specs.declared.variable.Variable.{Variable}
 use Rattle.gc_spec.specs.PropertyGraph.{PropertyGraph, Node, Edge, Path, edge_at}
 use Rattle.gc_unite.specs.Claims.{Claims}
 use Rattle.gc_values.specs.Contexts.{own_graph}

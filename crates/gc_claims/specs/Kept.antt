@@ -5,9 +5,9 @@ use Rattle.std.specs.Option.{unwrap_or}
 use Rattle.gc_base.specs.declared.place.Sym.{Sym}
 use Rattle.gc_expr.specs.Views.{numbered_expr}
 use Rattle.gc_expr.specs.declared.expr.Expr.{Expr}
-use Rattle.gc_numbering.specs.Settings.{Setting}
-use Rattle.gc_numbering.specs.declared.numbered.Element.{Element}
-use Rattle.gc_recipe.specs.declared.chain.Chain.{Chain}
+use Rattle.gc_build_numbers.specs.Settings.{Setting}
+use Rattle.gc_build_numbers.specs.declared.numbered.Element.{Element}
+use Rattle.gc_build_recipe.specs.declared.chain.Chain.{Chain}
 use Rattle.gc_rows.specs.Rows.{datum_at, lists}
 use Rattle.gc_rows.specs.declared.datum.Datum.{Datum}
 use Rattle.gc_rows.specs.declared.datum.Datum.TheVariants.{Stored}

@@ -3,18 +3,18 @@ use Rattle.std.specs.Prelude.{ℕ, ◌+◌, ◌==◌, List, [], ◌∷◌, map, 
 use Rattle.std.specs.List.{find}
 use Rattle.std.specs.Option.{option_map, option_and_then, unwrap_or}
 use Rattle.gc_base.specs.declared.place.Sym.{Sym}
-use Rattle.gc_describe.specs.Described.{blank}
-use Rattle.gc_describe.specs.Faults.{elements_of}
-use Rattle.gc_describe.specs.declared.described.Described.{Described}
-use Rattle.gc_numbering.specs.Keys.{number_at, which_at}
-use Rattle.gc_numbering.specs.Settings.{Setting}
-use Rattle.gc_numbering.specs.declared.numbered.Element.{Element}
-use Rattle.gc_numbering.specs.declared.numbered.Numbered.{Numbered}
+use Rattle.gc_build_descriptions.specs.Described.{blank}
+use Rattle.gc_build_descriptions.specs.Faults.{elements_of}
+use Rattle.gc_build_descriptions.specs.declared.described.Described.{Described}
+use Rattle.gc_build_numbers.specs.Keys.{number_at, which_at}
+use Rattle.gc_build_numbers.specs.Settings.{Setting}
+use Rattle.gc_build_numbers.specs.declared.numbered.Element.{Element}
+use Rattle.gc_build_numbers.specs.declared.numbered.Numbered.{Numbered}
 use Rattle.gc_ppg.specs.declared.shape.Kind.{Kind}
 use Rattle.gc_ppg.specs.declared.shape.Kind.TheVariants as kind
-use Rattle.gc_recipe.specs.declared.variable.Grouping.{Grouping}
-use Rattle.gc_recipe.specs.declared.variable.Grouping.TheVariants as by
-use Rattle.gc_recipe.specs.declared.variable.Variable.{Variable}
+use Rattle.gc_build_recipe.specs.declared.variable.Grouping.{Grouping}
+use Rattle.gc_build_recipe.specs.declared.variable.Grouping.TheVariants as by
+use Rattle.gc_build_recipe.specs.declared.variable.Variable.{Variable}
 use Rattle.gc_rows.specs.declared.datum.Datum.{Datum}
 use Rattle.gc_rows.specs.declared.datum.Datum.TheVariants as datum
 use Rattle.gc_spec.specs.PropertyGraph.{is_among}

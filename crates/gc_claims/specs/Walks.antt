@@ -5,10 +5,10 @@ use Rattle.std.specs.Option.{option_to_list}
 use Rattle.gc_base.specs.Walks.{edges_of}
 use Rattle.gc_base.specs.declared.place.Sym.{Sym}
 use Rattle.gc_base.specs.declared.walk.Walk.{Walk}
-use Rattle.gc_numbering.specs.Settings.{Setting, on_row}
+use Rattle.gc_build_numbers.specs.Settings.{Setting, on_row}
 use Rattle.gc_ppg.specs.declared.shape.Kind.{Kind}
 use Rattle.gc_ppg.specs.declared.shape.Kind.TheVariants as kind
-use Rattle.gc_recipe.specs.declared.variable.Variable.{Variable}
+use Rattle.gc_build_recipe.specs.declared.variable.Variable.{Variable}
 use Rattle.gc_rows.specs.Rows.{datum_at, lists}
 use Rattle.gc_rows.specs.declared.row.Binding.{Binding}
 use Rattle.gc_spec.specs.PropertyGraph.{PropertyGraph, Node, Edge, is_among}

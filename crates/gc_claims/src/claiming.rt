@@ -9,8 +9,8 @@ use crate::kept::{Kept, kept_instances, lists};
 use crate::making::Making;
 use crate::walks::OnWalk;
 use gc_base::{Memory, Steps, Sym};
+use gc_build_recipe::{Chain, Variable};
 use gc_ppg::Kind;
-use gc_recipe::{Chain, Variable};
 use std::alloc::Global;
 use std::sync::ledger::Ledger;
 

@@ -9,10 +9,10 @@ ghost use Rattle.gc_claims.specs.Walks.{read_graph};
 use crate::elements::Claim;
 use crate::making::Making;
 use gc_base::{Duplicate, Id, Memory, Steps, Sym};
-use gc_describe::Description;
-use gc_numbering::Element;
+use gc_build_descriptions::Description;
+use gc_build_numbers::Element;
+use gc_build_recipe::{Grouping, Variable};
 use gc_ppg::{EdgeInfo, Kind};
-use gc_recipe::{Grouping, Variable};
 use std::marker::Model;
 use std::sync::ledger::Ledger;
 

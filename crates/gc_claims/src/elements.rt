@@ -1,19 +1,19 @@
 ghost use Rattle.std.specs.Prelude.{◌≡◌, ◌++◌, List, OnOk};
 ghost use Rattle.gc_claims.specs.Claimed.{same_kind, claims_for, claims_of};
 ghost use Rattle.gc_claims.specs.Makings.{Making as MakingSeen, descriptions_of};
-ghost use Rattle.gc_describe.specs.Faults.{elements_of};
-ghost use Rattle.gc_numbering.specs.declared.numbered.Element.{Element as ElementSeen};
-ghost use Rattle.gc_recipe.specs.declared.variable.Variable.{Variable as VariableSeen};
+ghost use Rattle.gc_build_descriptions.specs.Faults.{elements_of};
+ghost use Rattle.gc_build_numbers.specs.declared.numbered.Element.{Element as ElementSeen};
+ghost use Rattle.gc_build_recipe.specs.declared.variable.Variable.{Variable as VariableSeen};
 ghost use Rattle.gc_values.specs.Descriptions.{Description as DescriptionSeen};
 ghost use Rattle.gc_ppg.specs.declared.shape.Kind.{Kind as KindSeen};
 
 use crate::kept::{Kept, is_claimed};
 use crate::making::Making;
 use gc_base::{Memory, Steps};
-use gc_describe::Description;
-use gc_numbering::Element;
+use gc_build_descriptions::Description;
+use gc_build_numbers::Element;
+use gc_build_recipe::Variable;
 use gc_ppg::{EdgeInfo, Kind, NodeInfo, PathInfo};
-use gc_recipe::Variable;
 use std::sync::ledger::Ledger;
 
 /// Elements that are claimed, in any order and some of them several times.

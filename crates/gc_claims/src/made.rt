@@ -4,9 +4,9 @@ ghost use Rattle.gc_claims.specs.Makings.{all_made, description_at, element_of, 
 
 use crate::making::Making;
 use gc_base::{Duplicate, Id, LabelSet, Memory, Properties};
-use gc_describe::Description;
+use gc_build_descriptions::Description;
+use gc_build_recipe::Variable;
 use gc_ppg::Kind;
-use gc_recipe::Variable;
 use gc_rows::Datum;
 use gc_values::{Made, MadeList};
 

@@ -1,16 +1,16 @@
 ghost use Rattle.std.specs.Prelude.{◌≡◌, ◌==◌, IfOk, slice_get};
 ghost use Rattle.std.specs.List.{find};
 ghost use Rattle.std.specs.Option.{option_and_then, option_copied};
-ghost use Rattle.gc_numbering.specs.Keys.{number_at, which_at};
+ghost use Rattle.gc_build_numbers.specs.Keys.{number_at, which_at};
 ghost use Rattle.gc_claims.specs.Makings.{descriptions_of, identity_at, identity_by, identity_of};
-ghost use Rattle.gc_describe.specs.Faults.{elements_of};
+ghost use Rattle.gc_build_descriptions.specs.Faults.{elements_of};
 ghost use Rattle.gc_claims.specs.Walks.{along_graph, read_graph};
 
 use gc_base::{Id, Memory, Sym};
-use gc_describe::{Described, Description};
-use gc_numbering::{Element, Numbered, Setting};
+use gc_build_descriptions::{Described, Description};
+use gc_build_numbers::{Element, Numbered, Setting};
+use gc_build_recipe::{Grouping, Variable};
 use gc_ppg::Graph;
-use gc_recipe::{Grouping, Variable};
 use gc_values::ReadUse;
 use std::marker::Model;
 

@@ -4,10 +4,10 @@ ghost use Rattle.gc_claims.specs.Claimed.{node_claims};
 use crate::elements::Claim;
 use crate::making::Making;
 use gc_base::{Duplicate, Memory, Steps};
-use gc_describe::Description;
-use gc_numbering::Element;
+use gc_build_descriptions::Description;
+use gc_build_numbers::Element;
+use gc_build_recipe::Variable;
 use gc_ppg::{Kind, NodeInfo};
-use gc_recipe::Variable;
 use std::sync::ledger::Ledger;
 
 impl Claim for NodeInfo {

@@ -8,10 +8,10 @@ ghost use Rattle.gc_claims.specs.Walks.{read_graph};
 use crate::elements::Claim;
 use crate::making::Making;
 use gc_base::{Duplicate, Id, Memory, Steps, Sym, Walk};
-use gc_describe::Description;
-use gc_numbering::Element;
+use gc_build_descriptions::Description;
+use gc_build_numbers::Element;
+use gc_build_recipe::Variable;
 use gc_ppg::{Kind, PathInfo};
-use gc_recipe::Variable;
 use std::sync::ledger::Ledger;
 
 impl Claim for PathInfo {

@@ -1,12 +1,12 @@
 -- What the steps of a CONSTRUCT come to together.
 use Rattle.std.proofs.Common.{◌≡◌, ℕ, ◌+◌, ◌≤◌, List, map, Some, None, ap, ◌∙◌, sym, subst}
-use Rattle.gc_describe.specs.Described.{described_variable}
-use Rattle.gc_describe.specs.Faults.{first_fault}
-use Rattle.gc_describe.specs.declared.described.Described.{Described}
-use Rattle.gc_numbering.specs.Numbers.{numbering}
-use Rattle.gc_numbering.specs.Settings.{Setting}
-use Rattle.gc_numbering.specs.declared.numbered.Numbering.{Numbering}
-use Rattle.gc_recipe.specs.declared.recipe.Recipe.{Recipe}
+use Rattle.gc_build_descriptions.specs.Described.{described_variable}
+use Rattle.gc_build_descriptions.specs.Faults.{first_fault}
+use Rattle.gc_build_descriptions.specs.declared.described.Described.{Described}
+use Rattle.gc_build_numbers.specs.Numbers.{numbering}
+use Rattle.gc_build_numbers.specs.Settings.{Setting}
+use Rattle.gc_build_numbers.specs.declared.numbered.Numbering.{Numbering}
+use Rattle.gc_build_recipe.specs.declared.recipe.Recipe.{Recipe}
 use Rattle.gc_spec.specs.PropertyGraph.{PropertyGraph}
 use Rattle.gc_unite.specs.Claims.{IsClaimed}
 use Rattle.gc_making.specs.Constructed.{IsAfter, IsBuilt, IsSound, IsUnfit, claims, claims_by}

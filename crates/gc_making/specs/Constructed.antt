@@ -1,14 +1,14 @@
 -- The graph that a CONSTRUCT makes of a table, or the fault that it ends in.
 use Rattle.std.specs.Prelude.{◌≡◌, ℕ, ◌+◌, ◌<◌, ◌≤◌, List, map, Option, Some, None, Result, Ok, Err, ⊤}
 use Rattle.gc_claims.specs.Claimed.{all_claims}
-use Rattle.gc_describe.specs.Described.{described_variable}
-use Rattle.gc_describe.specs.Faults.{first_fault}
-use Rattle.gc_describe.specs.declared.described.Described.{Described}
-use Rattle.gc_describe.specs.declared.fault.Fault.{Fault}
-use Rattle.gc_numbering.specs.Numbers.{numbering}
-use Rattle.gc_numbering.specs.Settings.{Setting}
-use Rattle.gc_numbering.specs.declared.numbered.Numbered.{Numbered}
-use Rattle.gc_recipe.specs.declared.recipe.Recipe.{Recipe}
+use Rattle.gc_build_descriptions.specs.Described.{described_variable}
+use Rattle.gc_build_descriptions.specs.Faults.{first_fault}
+use Rattle.gc_build_descriptions.specs.declared.described.Described.{Described}
+use Rattle.gc_build_descriptions.specs.declared.fault.Fault.{Fault}
+use Rattle.gc_build_numbers.specs.Numbers.{numbering}
+use Rattle.gc_build_numbers.specs.Settings.{Setting}
+use Rattle.gc_build_numbers.specs.declared.numbered.Numbered.{Numbered}
+use Rattle.gc_build_recipe.specs.declared.recipe.Recipe.{Recipe}
 use Rattle.gc_spec.specs.PropertyGraph.{PropertyGraph}
 use Rattle.gc_unite.specs.Claims.{Claims, IsClaimed, IsOutcome}
 use Rattle.gc_making.specs.declared.built.Built.{Built}

@@ -1,5 +1,5 @@
 use gc_base::Memory;
-use gc_describe::Fault;
+use gc_build_descriptions::Fault;
 use gc_ppg::Graph;
 
 /// A graph that was made, and the identity that comes next.

@@ -5,11 +5,11 @@ ghost use Rattle.gc_unite.specs.Claims.{IsOutcome};
 
 use crate::built::{Built, Refusal};
 use gc_base::{Memory, Steps};
+use gc_build_descriptions::{DescribedList, Refusal as DescribeRefusal, describe};
+use gc_build_numbers::{Numbering, Setting, number};
+use gc_build_recipe::Recipe;
 use gc_claims::{Claims, Making, claims};
-use gc_describe::{DescribedList, Refusal as DescribeRefusal, describe};
-use gc_numbering::{Numbering, Setting, number};
 use gc_ppg::Graph;
-use gc_recipe::Recipe;
 use gc_unite::unite;
 use std::sync::ledger::Ledger;
 

@@ -8,12 +8,12 @@ use Rattle.gc_lex.specs.declared.token.Token.{Token}
 use Rattle.gc_lex.specs.declared.token.Mark.TheVariants as mark
 use Rattle.gc_grammar.specs.Words.{Point}
 use Rattle.gc_grammar.specs.Readers.{Reader, Reading, Got, Stuck, then_read, in_front, read_mark, read_both, read_made}
-use Rattle.gc_readers.specs.LaterReaders.{ended, read_next, read_unless_ended}
-use Rattle.gc_readers.specs.QueryReaders.{read_later, read_unless_end}
-use Rattle.gc_source.specs.declared.refusal.Refusal.{Refusal}
-use Rattle.gc_source.specs.declared.refusal.Refusal.TheVariants as refusal
-use Rattle.gc_source.specs.Results.{Gives}
-use Rattle.gc_source.proofs.Loops.{front_of_front}
+use Rattle.gc_parse_readers.specs.LaterReaders.{ended, read_next, read_unless_ended}
+use Rattle.gc_parse_readers.specs.QueryReaders.{read_later, read_unless_end}
+use Rattle.gc_parse_source.specs.declared.refusal.Refusal.{Refusal}
+use Rattle.gc_parse_source.specs.declared.refusal.Refusal.TheVariants as refusal
+use Rattle.gc_parse_source.specs.Results.{Gives}
+use Rattle.gc_parse_source.proofs.Loops.{front_of_front}
 use native.Mathlib.Omega.{arith}
 
 -- a place is at the end where it is no less than the number of tokens

@@ -4,7 +4,7 @@ use Rattle.std.proofs.lemmas.Bool.{eqb-true}
 use Rattle.std.proofs.lemmas.Bool.Decides.{nat_tests}
 use Rattle.std.specs.List.{filter}
 use Rattle.gc_lex.specs.declared.token.Token.{Token}
-use Rattle.gc_source.proofs.Prefixes.{take_snoc}
+use Rattle.gc_parse_source.proofs.Prefixes.{take_snoc}
 use Rattle.gc_parse.specs.Depths.{one_if, IsTooDeep}
 use native.Mathlib.Omega.{arith}
 

@@ -4,20 +4,20 @@ use Rattle.gc_ast.specs.Trees.{Tree, AStatement}
 use Rattle.gc_lex.specs.declared.token.Token.{Token}
 use Rattle.gc_grammar.specs.Readers.{Got, Stuck}
 use Rattle.gc_grammar.specs.Queries.{SpellsFile, start}
-use Rattle.gc_source.specs.declared.refusal.Refusal.{Refusal}
-use Rattle.gc_source.specs.declared.refusal.Refusal.TheVariants as refusal
+use Rattle.gc_parse_source.specs.declared.refusal.Refusal.{Refusal}
+use Rattle.gc_parse_source.specs.declared.refusal.Refusal.TheVariants as refusal
 use Rattle.gc_parse.specs.declared.refusal.ParseRefusal.TheVariants as whole
 use Rattle.gc_parse.specs.declared.refusal.ParseRefusal.{ParseRefusal}
 use Rattle.gc_parse.specs.Depths.{depth_fault_in}
 use Rattle.gc_parse.specs.Parses.{IsWhole, IsDueWhole, IsDueParse, parsed, read_whole, unless_deep}
-use Rattle.gc_readers.specs.QueryReaders.{file_reading}
-use Rattle.gc_readers.specs.QueryReaders.{nested, read_file}
-use Rattle.gc_source.specs.Results.{Gives}
-use Rattle.gc_readers.specs.Points.{bare}
+use Rattle.gc_parse_readers.specs.QueryReaders.{file_reading}
+use Rattle.gc_parse_readers.specs.QueryReaders.{nested, read_file}
+use Rattle.gc_parse_source.specs.Results.{Gives}
+use Rattle.gc_parse_readers.specs.Points.{bare}
 use Rattle.gc_parse.specs.Parses.{as_parse_refusal}
 use Rattle.gc_base.specs.declared.place.Place.{Place}
-use Rattle.gc_source.proofs.Prefixes.{take_snoc}
-use Rattle.gc_readers.proofs.FileRight.{file_sound, file_refused, file_alone}
+use Rattle.gc_parse_source.proofs.Prefixes.{take_snoc}
+use Rattle.gc_parse_readers.proofs.FileRight.{file_sound, file_refused, file_alone}
 use native.Mathlib.Omega.{arith}
 
 -- what is read is the one list of statements

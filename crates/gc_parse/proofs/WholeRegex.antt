@@ -5,12 +5,12 @@ use Rattle.gc_regx.specs.declared.regex.Regex.{Regex}
 use Rattle.gc_regx.specs.Views.{regex_tree}
 use Rattle.gc_expr.specs.Views.{Names}
 use Rattle.gc_grammar.specs.Queries.{SpellsRegex, start}
-use Rattle.gc_readers.specs.RegexReaders.{read_regex}
-use Rattle.gc_readers.proofs.WholeRegex.{regex_stuck}
-use Rattle.gc_source.specs.declared.refusal.Refusal.{Refusal}
-use Rattle.gc_source.specs.declared.refusal.Refusal.TheVariants as refusal
-use Rattle.gc_source.specs.Results.{Gives}
-use Rattle.gc_patterns.specs.RegexViews.{part_view}
+use Rattle.gc_parse_readers.specs.RegexReaders.{read_regex}
+use Rattle.gc_parse_readers.proofs.WholeRegex.{regex_stuck}
+use Rattle.gc_parse_source.specs.declared.refusal.Refusal.{Refusal}
+use Rattle.gc_parse_source.specs.declared.refusal.Refusal.TheVariants as refusal
+use Rattle.gc_parse_source.specs.Results.{Gives}
+use Rattle.gc_parse_patterns.specs.RegexViews.{part_view}
 use Rattle.gc_parse.specs.Parses.{IsWhole}
 
 -- what a reading gives is what the whole list gives

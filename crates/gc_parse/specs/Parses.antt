@@ -3,12 +3,12 @@ use Rattle.std.specs.Prelude.{◌≡◌, ◌+◌, List, length, Option, Result, 
 use Rattle.gc_lex.specs.declared.token.Token.{Token}
 use Rattle.gc_parse.specs.declared.refusal.ParseRefusal.{ParseRefusal}
 use Rattle.gc_parse.specs.declared.refusal.ParseRefusal.TheVariants.{TooDeep, Syntax, Memory}
-use Rattle.gc_source.specs.declared.refusal.Refusal.{Refusal}
-use Rattle.gc_source.specs.declared.refusal.Refusal.TheVariants as refusal
+use Rattle.gc_parse_source.specs.declared.refusal.Refusal.{Refusal}
+use Rattle.gc_parse_source.specs.declared.refusal.Refusal.TheVariants as refusal
 use Rattle.gc_ast.specs.Trees.{Tree, AStatement}
 use Rattle.gc_grammar.specs.Readers.{Reading, Got, Stuck}
-use Rattle.gc_readers.specs.QueryReaders.{file_reading}
-use Rattle.gc_readers.specs.Refusals.{IsRefusedAt}
+use Rattle.gc_parse_readers.specs.QueryReaders.{file_reading}
+use Rattle.gc_parse_readers.specs.Refusals.{IsRefusedAt}
 use Rattle.gc_parse.specs.Depths.{IsDepthFault, depth_fault_in}
 
 -- a result is the parse of a list, by what lists spell and what a result's tree is: brackets that are

@@ -2,16 +2,16 @@ ghost use Rattle.std.specs.Prelude.{◌-◌, ◌<◌, ◌∷◌, [], drop, map, 
 ghost use Rattle.gc_ast.specs.QueryViews.{basic_tree, block_tree, optional_tree};
 ghost use Rattle.gc_grammar.specs.Kinds.{word_kind};
 ghost use Rattle.gc_grammar.specs.Readers.{read_many};
-ghost use Rattle.gc_readers.specs.QueryReaders.{nested, read_basic, read_block, read_optional_block};
-ghost use Rattle.gc_source.specs.Results.{Gives};
-ghost use Rattle.gc_readers.specs.Points.{bare};
+ghost use Rattle.gc_parse_readers.specs.QueryReaders.{nested, read_basic, read_block, read_optional_block};
+ghost use Rattle.gc_parse_source.specs.Results.{Gives};
+ghost use Rattle.gc_parse_readers.specs.Points.{bare};
 
 use crate::formulas::{condition_if, construct_items};
 use gc_ast::{Basic, MatchBlock, OptionalBlock, OptionalList};
-use gc_patterns::patterns;
-use gc_source::{Refusal, Source};
+use gc_parse_patterns::patterns;
+use gc_parse_source::{Refusal, Source};
 
-#[tactic(auto, unfolding(gc_readers::specs::QueryReaders::read_basic))]
+#[tactic(auto, unfolding(gc_parse_readers::specs::QueryReaders::read_basic))]
 #[cycle(query)]
 // basic = `CONSTRUCT` item { `,` item } `MATCH` block { `OPTIONAL` block }
 pub(crate) fn basic(source: &Source, room: u64, at: u32) -> Result<(Basic, u32), Refusal>
@@ -27,7 +27,7 @@ pub(crate) fn basic(source: &Source, room: u64, at: u32) -> Result<(Basic, u32),
     Ok((Basic::of(token, items, main, optionals), at))
 }
 
-#[tactic(auto, unfolding(gc_readers::specs::QueryReaders::read_block, gc_readers::specs::QueryReaders::read_where))]
+#[tactic(auto, unfolding(gc_parse_readers::specs::QueryReaders::read_block, gc_parse_readers::specs::QueryReaders::read_where))]
 #[cycle(query)]
 // block = located { `,` located } [ `WHERE` expr ]
 fn block(source: &Source, room: u64, at: u32) -> Result<(MatchBlock, u32), Refusal>
@@ -58,7 +58,7 @@ fn optional_blocks(source: &Source, room: u64, from: u32) -> Result<(OptionalLis
     Ok((blocks, at))
 }
 
-#[tactic(auto, unfolding(gc_readers::specs::QueryReaders::read_optional_block))]
+#[tactic(auto, unfolding(gc_parse_readers::specs::QueryReaders::read_optional_block))]
 #[cycle(query)]
 // `OPTIONAL` block
 fn optional_block(source: &Source, room: u64, at: u32) -> Result<(OptionalBlock, u32), Refusal>

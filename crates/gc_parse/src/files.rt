@@ -2,17 +2,17 @@ ghost use Rattle.std.specs.Prelude.{◌≡◌, ◌-◌, ◌<◌, ◌∷◌, [], 
 ghost use Rattle.std.specs.Option.{option_map};
 ghost use Rattle.gc_ast.specs.QueryViews.{statement_tree};
 ghost use Rattle.gc_grammar.specs.Readers.{in_front};
-ghost use Rattle.gc_readers.specs.LaterReaders.{ended, read_next, read_unless_ended};
-ghost use Rattle.gc_readers.specs.QueryReaders.{nested, read_file, read_later, read_statement, read_view_statement};
-ghost use Rattle.gc_source.specs.Results.{Gives};
-ghost use Rattle.gc_readers.specs.Points.{bare};
+ghost use Rattle.gc_parse_readers.specs.LaterReaders.{ended, read_next, read_unless_ended};
+ghost use Rattle.gc_parse_readers.specs.QueryReaders.{nested, read_file, read_later, read_statement, read_view_statement};
+ghost use Rattle.gc_parse_source.specs.Results.{Gives};
+ghost use Rattle.gc_parse_readers.specs.Points.{bare};
 
 use crate::queries::{named_query, query};
 use gc_ast::{Statement, StatementList};
 use gc_lex::Mark;
-use gc_source::{Refusal, Source, is_view_at, one};
+use gc_parse_source::{Refusal, Source, is_view_at, one};
 
-#[tactic(auto, unfolding(gc_readers::specs::QueryReaders::read_view_statement))]
+#[tactic(auto, unfolding(gc_parse_readers::specs::QueryReaders::read_view_statement))]
 // `GRAPH` `VIEW` name `AS` `(` query `)`
 fn view_statement(source: &Source, room: u64, at: u32) -> Result<(Statement, u32), Refusal>
     requires { 0 < room }
@@ -24,7 +24,7 @@ fn view_statement(source: &Source, room: u64, at: u32) -> Result<(Statement, u32
     Ok((Statement::view(name, query), at))
 }
 
-#[tactic(auto, unfolding(gc_readers::specs::QueryReaders::read_statement))]
+#[tactic(auto, unfolding(gc_parse_readers::specs::QueryReaders::read_statement))]
 // statement = `GRAPH` `VIEW` name `AS` `(` query `)` | query
 fn statement(source: &Source, room: u64, at: u32) -> Result<(Statement, u32), Refusal>
     requires { 0 < room }
@@ -37,7 +37,7 @@ fn statement(source: &Source, room: u64, at: u32) -> Result<(Statement, u32), Re
     Ok((Statement::ask(query), at))
 }
 
-#[tactic(auto, unfolding(gc_readers::specs::QueryReaders::read_file))]
+#[tactic(auto, unfolding(gc_parse_readers::specs::QueryReaders::read_file))]
 // file = statement { `;` statement } [ `;` ]
 pub(crate) fn file_statements(
     source: &Source,

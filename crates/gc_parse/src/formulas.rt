@@ -5,19 +5,19 @@ ghost use Rattle.gc_base.specs.Words.{is_reserved};
 ghost use Rattle.gc_lex.specs.declared.token.Mark.TheVariants as mark;
 ghost use Rattle.gc_grammar.specs.Kinds.{mark_kind};
 ghost use Rattle.gc_grammar.specs.Readers.{read_separated, read_mark};
-ghost use Rattle.gc_readers.specs.ConstructReaders.{read_item};
-ghost use Rattle.gc_readers.specs.ExpressionReaders.{read_formula};
-ghost use Rattle.gc_readers.specs.Points.{bare};
-ghost use Rattle.gc_readers.specs.QueryReaders.{nested, read_condition_if};
-ghost use Rattle.gc_source.specs.Results.{Gives};
+ghost use Rattle.gc_parse_readers.specs.ConstructReaders.{read_item};
+ghost use Rattle.gc_parse_readers.specs.ExpressionReaders.{read_formula};
+ghost use Rattle.gc_parse_readers.specs.Points.{bare};
+ghost use Rattle.gc_parse_readers.specs.QueryReaders.{nested, read_condition_if};
+ghost use Rattle.gc_parse_source.specs.Results.{Gives};
 
 use crate::queries::inner_query;
 use gc_ast::{Formula, ItemList};
-use gc_constructs::{FormulaRead, condition_if as condition_by, items};
-use gc_expressions::{QueryRead, expression};
-use gc_source::{Refusal, Source};
+use gc_parse_constructs::{FormulaRead, condition_if as condition_by, items};
+use gc_parse_expressions::{QueryRead, expression};
+use gc_parse_source::{Refusal, Source};
 
-#[tactic(auto, unfolding(gc_readers::specs::ExpressionReaders::read_formula))]
+#[tactic(auto, unfolding(gc_parse_readers::specs::ExpressionReaders::read_formula))]
 #[cycle(query)]
 // An expression, with the queries of its own EXISTS beside it.
 fn formula(source: &Source, room: u64, at: u32) -> FormulaRead

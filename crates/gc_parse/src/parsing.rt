@@ -3,7 +3,7 @@ ghost use Rattle.gc_ast.specs.QueryViews.{file_trees, statement_tree};
 ghost use Rattle.gc_regx.specs.Views.{regex_tree};
 ghost use Rattle.gc_grammar.specs.Queries.{SpellsFile, SpellsRegex};
 ghost use Rattle.gc_parse.specs.Parses.{IsDueParse, IsDueWhole, IsParse, IsWhole, parsed, read_whole};
-ghost use Rattle.gc_readers.specs.QueryReaders.{file_reading};
+ghost use Rattle.gc_parse_readers.specs.QueryReaders.{file_reading};
 
 use crate::depth::depth_fault;
 use crate::files::file_statements;
@@ -11,9 +11,9 @@ use crate::refusal::ParseRefusal;
 use gc_ast::{File, PlaceList, StatementList};
 use gc_base::Memory;
 use gc_lex::Tokens;
-use gc_patterns::regex;
+use gc_parse_patterns::regex;
+use gc_parse_source::{Refusal, Source};
 use gc_regx::Regex;
-use gc_source::{Refusal, Source};
 use std::alloc::Global;
 
 /// The regular path expression of a whole token list.

@@ -3,17 +3,17 @@ ghost use Rattle.std.specs.Option.{option_map};
 ghost use Rattle.gc_ast.specs.QueryViews.{formula_tree, head_tree};
 ghost use Rattle.gc_ast.specs.Trees.{maybe};
 ghost use Rattle.gc_grammar.specs.Readers.{read_both};
-ghost use Rattle.gc_readers.specs.Points.{bare};
-ghost use Rattle.gc_readers.specs.QueryReaders.{nested, read_condition_if, read_path_head, read_where};
-ghost use Rattle.gc_source.specs.Results.{Gives};
+ghost use Rattle.gc_parse_readers.specs.Points.{bare};
+ghost use Rattle.gc_parse_readers.specs.QueryReaders.{nested, read_condition_if, read_path_head, read_where};
+ghost use Rattle.gc_parse_source.specs.Results.{Gives};
 
 use crate::formulas::condition_if;
 use gc_ast::{Formula, Head};
 use gc_lex::Mark;
-use gc_patterns::path_chains;
-use gc_source::{Refusal, Source};
+use gc_parse_patterns::path_chains;
+use gc_parse_source::{Refusal, Source};
 
-#[tactic(auto, unfolding(gc_readers::specs::QueryReaders::read_path_head))]
+#[tactic(auto, unfolding(gc_parse_readers::specs::QueryReaders::read_path_head))]
 #[cycle(query)]
 // `PATH` name `=` vchain { `,` vchain } [ `WHERE` expr ] [ `COST` expr ]
 pub(crate) fn path_head(source: &Source, room: u64, at: u32) -> Result<(Head, u32), Refusal>
@@ -28,7 +28,7 @@ pub(crate) fn path_head(source: &Source, room: u64, at: u32) -> Result<(Head, u3
     Ok((Head::path(name, chains, filter, cost), at))
 }
 
-#[tactic(auto, unfolding(gc_readers::specs::QueryReaders::read_where))]
+#[tactic(auto, unfolding(gc_parse_readers::specs::QueryReaders::read_where))]
 #[cycle(query)]
 // [ `WHERE` expr ] [ `COST` expr ]
 fn filter_and_cost(

@@ -5,10 +5,10 @@ ghost use Rattle.gc_expr.specs.Views.{Names};
 ghost use Rattle.gc_grammar.specs.Kinds.{begins, word_kind};
 ghost use Rattle.gc_grammar.specs.Queries.{as_query, as_term};
 ghost use Rattle.gc_grammar.specs.Readers.{read_many};
-ghost use Rattle.gc_readers.specs.ExpressionReaders.{read_in_parentheses};
-ghost use Rattle.gc_readers.specs.QueryReaders.{nested, read_head, read_named_query, read_next_term, read_query, read_set_op, read_term, set_op_kinds};
-ghost use Rattle.gc_source.specs.Results.{Gives};
-ghost use Rattle.gc_readers.specs.Points.{bare};
+ghost use Rattle.gc_parse_readers.specs.ExpressionReaders.{read_in_parentheses};
+ghost use Rattle.gc_parse_readers.specs.QueryReaders.{nested, read_head, read_named_query, read_next_term, read_query, read_set_op, read_term, set_op_kinds};
+ghost use Rattle.gc_parse_source.specs.Results.{Gives};
+ghost use Rattle.gc_parse_readers.specs.Points.{bare};
 ghost use Rattle.gc_parse.specs.TermParts.{term_of_parts};
 
 use crate::blocks::basic;
@@ -16,10 +16,10 @@ use crate::path_heads::path_head;
 use gc_ast::{Head, HeadList, NextTerm, NextTermList, Query, SetOp, Term};
 use gc_base::{Memory, NameAt};
 use gc_lex::Mark;
-use gc_source::{Refusal, Source};
+use gc_parse_source::{Refusal, Source};
 use std::alloc::Global;
 
-#[tactic(auto, using(gc_readers::proofs::NestedRooms::query_with_room, gc_readers::proofs::NestedRooms::query_without_room))]
+#[tactic(auto, using(gc_parse_readers::proofs::NestedRooms::query_with_room, gc_parse_readers::proofs::NestedRooms::query_without_room))]
 #[cycle(query)]
 // A query between brackets, over at most so many tokens.
 pub(crate) fn inner_query(source: &Source, room: u64, at: u32) -> Result<(Query, u32), Refusal>
@@ -31,7 +31,7 @@ pub(crate) fn inner_query(source: &Source, room: u64, at: u32) -> Result<(Query,
     query(source, room, at)
 }
 
-#[tactic(auto, unfolding(gc_readers::specs::QueryReaders::read_query))]
+#[tactic(auto, unfolding(gc_parse_readers::specs::QueryReaders::read_query))]
 #[cycle(query)]
 // query = { head } term { (`UNION` | `INTERSECT` | `MINUS`) term }
 pub(crate) fn query(source: &Source, room: u64, at: u32) -> Result<(Query, u32), Refusal>
@@ -85,7 +85,7 @@ fn is_head_at(source: &Source, at: u32) -> bool
     source.is_word_at(at, "PATH") || source.is_word_at(at, "GRAPH")
 }
 
-#[tactic(auto, unfolding(gc_readers::specs::QueryReaders::read_head))]
+#[tactic(auto, unfolding(gc_parse_readers::specs::QueryReaders::read_head))]
 #[cycle(query)]
 // head = `PATH` name `=` vchain { `,` vchain } [ `WHERE` expr ] [ `COST` expr ]
 //     | `GRAPH` name `AS` `(` query `)`
@@ -101,7 +101,7 @@ fn head(source: &Source, room: u64, at: u32) -> Result<(Head, u32), Refusal>
     Ok((Head::graph(name, query), at))
 }
 
-#[tactic(auto, unfolding(gc_readers::specs::QueryReaders::read_named_query))]
+#[tactic(auto, unfolding(gc_parse_readers::specs::QueryReaders::read_named_query))]
 #[cycle(query)]
 // name `AS` `(` query `)`
 pub(crate) fn named_query(
@@ -118,7 +118,7 @@ pub(crate) fn named_query(
     Ok(((name, query), at))
 }
 
-#[tactic(auto, unfolding(gc_readers::specs::ExpressionReaders::read_in_parentheses))]
+#[tactic(auto, unfolding(gc_parse_readers::specs::ExpressionReaders::read_in_parentheses))]
 #[cycle(query)]
 // `(` query `)`
 fn bracketed_query(source: &Source, room: u64, at: u32) -> Result<(Query, u32), Refusal>
@@ -131,7 +131,7 @@ fn bracketed_query(source: &Source, room: u64, at: u32) -> Result<(Query, u32), 
     Ok((query, at))
 }
 
-#[tactic(auto, unfolding(gc_readers::specs::QueryReaders::read_term))]
+#[tactic(auto, unfolding(gc_parse_readers::specs::QueryReaders::read_term))]
 #[cycle(query)]
 // term = basic | name | `(` query `)`
 fn term(source: &Source, room: u64, at: u32) -> Result<(Term, u32), Refusal>
@@ -194,7 +194,7 @@ fn next_terms(source: &Source, room: u64, from: u32) -> Result<(NextTermList, u3
     Ok((terms, at))
 }
 
-#[tactic(auto, unfolding(gc_readers::specs::QueryReaders::read_next_term))]
+#[tactic(auto, unfolding(gc_parse_readers::specs::QueryReaders::read_next_term))]
 #[cycle(query)]
 // (`UNION` | `INTERSECT` | `MINUS`) term
 fn next_term(source: &Source, room: u64, at: u32) -> Result<(NextTerm, u32), Refusal>
@@ -206,7 +206,7 @@ fn next_term(source: &Source, room: u64, at: u32) -> Result<(NextTerm, u32), Ref
     Ok((NextTerm::of(op, term), at))
 }
 
-#[tactic(auto, unfolding(gc_readers::specs::QueryReaders::read_set_op))]
+#[tactic(auto, unfolding(gc_parse_readers::specs::QueryReaders::read_set_op))]
 // `UNION` | `INTERSECT` | `MINUS`
 fn set_op(source: &Source, at: u32) -> Result<(SetOp, u32), Refusal>
     ensures { Gives (λ op. op) source.now.tokens result (read_set_op (bare at) (drop at source.now.tokens)) }

@@ -1,4 +1,4 @@
-use gc_source::Refusal;
+use gc_parse_source::Refusal;
 use thiserror::Error;
 
 /// Why a token list has no tree.

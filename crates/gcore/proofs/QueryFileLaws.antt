@@ -15,10 +15,10 @@ use Rattle.gc_grammar.specs.Readers.{Reading, Got, Stuck}
 use Rattle.gc_parse.specs.declared.refusal.ParseRefusal.{ParseRefusal}
 use Rattle.gc_parse.specs.declared.refusal.ParseRefusal.TheVariants as parse
 use Rattle.gc_parse.specs.Depths.{IsDepthFault, IsTooDeep, is_too_deep, first_from, depth_fault_in}
-use Rattle.gc_readers.specs.Refusals.{IsRefusedAt}
-use Rattle.gc_readers.specs.QueryReaders.{file_reading}
+use Rattle.gc_parse_readers.specs.Refusals.{IsRefusedAt}
+use Rattle.gc_parse_readers.specs.QueryReaders.{file_reading}
 use Rattle.gc_parse.specs.Parses.{parsed, read_whole, unless_deep}
-use Rattle.gc_readers.proofs.FileRight.{file_complete, file_refused, file_sound}
+use Rattle.gc_parse_readers.proofs.FileRight.{file_complete, file_refused, file_sound}
 use Rattle.gc_parse.proofs.Prefixes.{none_at_all, none_at_first}
 use Rattle.gc_sorts.specs.declared.breach.Breach.{Breach}
 use Rattle.gc_sorts.specs.declared.breach.SortRule.{SortRule}

@@ -4,7 +4,7 @@ ghost use Rattle.gc_lex.specs.Lexis.{TokenList, lexed};
 ghost use Rattle.gc_ast.specs.Trees.{Tree, AStatement, row};
 ghost use Rattle.gc_grammar.specs.Queries.{SpellsFile};
 ghost use Rattle.gc_parse.specs.Depths.{IsDepthFault};
-ghost use Rattle.gc_readers.specs.Refusals.{IsRefusedAt};
+ghost use Rattle.gc_parse_readers.specs.Refusals.{IsRefusedAt};
 ghost use Rattle.gc_sorts.specs.declared.breach.Breach.{Breach};
 ghost use Rattle.gc_sorts.specs.declared.breach.SortRule.{SortRule};
 ghost use Rattle.gc_sorts.specs.SortRules.{first_breach};

@@ -1,7 +1,7 @@
 use Rattle.std.proofs.Common.{◌≡◌, ◌++◌, drop}
 use Rattle.gc_claims.specs.Claimed.{claims_of}
 use Rattle.gc_claims.specs.Makings.{descriptions_of}
-use Rattle.gc_describe.specs.Faults.{elements_of}
+use Rattle.gc_build_descriptions.specs.Faults.{elements_of}
 use Rattle.gc_claims.proofs.elements.claim_all.Given as goal
 
 -- what is claimed so far, before what the rest claims

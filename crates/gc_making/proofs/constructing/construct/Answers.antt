@@ -1,5 +1,5 @@
 use Rattle.std.proofs.Common.{◌≡◌, ap, ◌∙◌, subst}
-use Rattle.gc_numbering.specs.Numbers.{numbering}
+use Rattle.gc_build_numbers.specs.Numbers.{numbering}
 use Rattle.gc_unite.specs.Claims.{IsOutcome}
 use Rattle.gc_making.specs.Constructed.{claims_by}
 use Rattle.gc_making.proofs.Outcomes.{built, unfit}

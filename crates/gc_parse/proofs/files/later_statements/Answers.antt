@@ -2,8 +2,8 @@ use Rattle.std.proofs.Common.{◌-◌, drop, map}
 use Rattle.std.specs.Option.{option_map}
 use Rattle.std.proofs.lemmas.Result.{err_from_is_err_and}
 use Rattle.gc_ast.specs.QueryViews.{statement_tree}
-use Rattle.gc_readers.specs.QueryReaders.{nested, read_statement}
-use Rattle.gc_readers.specs.Points.{bare}
+use Rattle.gc_parse_readers.specs.QueryReaders.{nested, read_statement}
+use Rattle.gc_parse_readers.specs.Points.{bare}
 use Rattle.gc_parse.proofs.LaterLoops.{later_stops, later_goes_on, later_exits, later_ends}
 use Rattle.gc_parse.proofs.files.later_statements.Goals as goal
 use native.Mathlib.Omega.{arith}

@@ -1,5 +1,5 @@
 use Rattle.std.proofs.Common.{sym, ap, ◌∙◌, ◌∷◌, [], ◌++◌}
-use Rattle.gc_source.proofs.Prefixes.{take_snoc}
+use Rattle.gc_parse_source.proofs.Prefixes.{take_snoc}
 use Rattle.gc_parse.proofs.parsing.places_of.Goals as goal
 
 pub loop-number-preserved : goal.loop-number-preserved

@@ -1,7 +1,7 @@
 use Rattle.std.proofs.Common.{◌+◌}
 use Rattle.std.proofs.lemmas.Result.{err_from_is_err_and}
-use Rattle.gc_patterns.specs.RegexViews.{part_view}
-use Rattle.gc_readers.proofs.WholeRegex.{regex_found, regex_left}
+use Rattle.gc_parse_patterns.specs.RegexViews.{part_view}
+use Rattle.gc_parse_readers.proofs.WholeRegex.{regex_found, regex_left}
 use Rattle.gc_parse.proofs.WholeRegex.{regex_exits}
 use Rattle.gc_parse.proofs.parsing.regex_of.Goals as goal
 use native.Mathlib.Omega.{arith}

@@ -1,6 +1,6 @@
 use Rattle.std.proofs.Common.{sym, ap, ◌∙◌, ◌+◌, length, map, Ok}
 use Rattle.gc_ast.specs.QueryViews.{file_trees, statement_tree}
-use Rattle.gc_readers.specs.QueryReaders.{file_reading}
+use Rattle.gc_parse_readers.specs.QueryReaders.{file_reading}
 use Rattle.gc_parse.specs.Parses.{read_whole}
 use Rattle.gc_parse.proofs.WholeFile.{places_are_whole, same_whole}
 use Rattle.gc_parse.proofs.parsing.whole_file.Goals as goal

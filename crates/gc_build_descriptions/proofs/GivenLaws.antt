@@ -1,0 +1,56 @@
+-- What the assignments give to an element is what it is described with.
+use Rattle.std.proofs.Common.{◌≡◌, refl, sym, ap, ◌∙◌, subst, ℕ, ◌==◌, ◌<◌, Bool, true, false, cond, List, [], ◌∷◌, length, get_or, map, fold, Some, slice_get}
+use Rattle.std.specs.List.{filter, find}
+use Rattle.std.specs.Option.{unwrap_or, option_map}
+use Rattle.std.proofs.lemmas.Bool.{eqb-true}
+use Rattle.std.proofs.lemmas.Option.{slice_get-map, slice_get-get_or}
+use Rattle.gc_base.specs.PropertyLists.{put}
+use Rattle.gc_base.specs.declared.place.Sym.{Sym}
+use Rattle.gc_build_numbers.specs.Settings.{Setting}
+use Rattle.gc_build_numbers.specs.declared.numbered.Element.{Element}
+use Rattle.gc_build_numbers.specs.declared.numbered.Numbered.{Numbered}
+use Rattle.gc_build_recipe.specs.declared.change.Assignment.{Assignment}
+use Rattle.gc_build_recipe.specs.declared.recipe.Recipe.{Recipe}
+use Rattle.gc_build_recipe.specs.declared.variable.Variable.{Variable}
+use Rattle.gc_values.specs.Descriptions.{Description}
+use Rattle.gc_build_descriptions.specs.Described.{described, of_variable, start_of, with_assigned, with_label, without_label, without_property}
+use Rattle.gc_build_descriptions.specs.Faults.{elements_of, listed_elements}
+use Rattle.gc_build_descriptions.specs.Givens.{Given, described_with, given, given_to, with_given}
+
+-- a fold over some of a list, as one over what they are mapped to
+fold_of_mapped : {A B C : Type 0} (f : C → B → C) (g : C → A → C) (h : A → B) (p : B → Bool)
+    → ((c : C) (x : A) → p (h x) ≡ true → f c (h x) ≡ g c x)
+    → (c : C) (xs : List A) → fold f c (filter p (map h xs)) ≡ fold g c (filter (λ x. p (h x)) xs)
+fold_of_mapped f g h p same c [] = refl
+fold_of_mapped f g h p same c (x ∷ xs) =
+    elim (p (h x)) as (λ t. p (h x) ≡ t → fold f c (cond t (h x ∷ filter p (map h xs)) (filter p (map h xs))) ≡ fold g c (cond t (x ∷ filter (λ y. p (h y)) xs) (filter (λ y. p (h y)) xs))) [
+      | true ↦ λ t. ap (λ d. fold f d (filter p (map h xs))) (same c x t) ∙ fold_of_mapped f g h p same (g c x) xs
+      | false ↦ λ t. fold_of_mapped f g h p same c xs
+    ] refl
+
+-- what an assignment gives to the element at a place
+given_at : (s : Setting) (variables : List Numbered) (a : Assignment) (x : Sym) (place : ℕ) (e : Element)
+    → (a.var.0 == x.0) ≡ true → place < length (elements_of variables x) → e ≡ get_or (elements_of variables x) place e
+    → unwrap_or (slice_get (map (given_to s a) (elements_of variables a.var)) place) [] ≡ given_to s a e
+given_at s variables a x place e t h i =
+    let own : elements_of variables a.var ≡ elements_of variables x = ap (λ n. listed_elements (find (λ v. v.var.0 == n) variables)) (eqb-true a.var.0 x.0 t) in
+    let there : slice_get (elements_of variables x) place ≡ Some e = slice_get-get_or (elements_of variables x) place e h ∙ ap Some (sym i) in
+    ap (λ es. unwrap_or (slice_get (map (given_to s a) es) place) []) own
+    ∙ ap (λ o. unwrap_or o []) (slice_get-map (given_to s a) (elements_of variables x) place ∙ ap (option_map (given_to s a)) there)
+
+described_at : (s : Setting) (r : Recipe) (variables : List Numbered) (v : Variable) (place : ℕ) (e : Element)
+    → place < length (elements_of variables v.var) → e ≡ get_or (elements_of variables v.var) place e
+    → described_with s r (map (given s variables) r.assignments.items) v place e ≡ described s r v e
+described_at s r variables v place e h i =
+    ap (λ d. fold without_property (fold without_label d (of_variable (λ l. l.var) v.var r.lost_labels)) (of_variable (λ p. p.var) v.var r.lost_properties))
+    (fold_of_mapped (with_given place) (with_assigned s e.group.rows) (given s variables) (λ g. g.var.0 == v.var.0)
+    (λ d a t. ap (λ values. record d { properties = put d.properties (record { name = a.property; values = values }) }) (given_at s variables a v.var place e t h i))
+    (fold with_label (start_of s v.start e.group.rows) (of_variable (λ l. l.var) v.var r.labels)) r.assignments.items)
+
+pub described_so : (s : Setting) (r : Recipe) (variables : List Numbered) (givens : List Given) (v : Variable) (elements : List Element) (place : ℕ) (e : Element) (d : Description)
+    → givens ≡ map (given s variables) r.assignments.items → elements ≡ elements_of variables v.var → place < length elements → e ≡ get_or elements place e
+    → d ≡ described_with s r givens v place e → d ≡ described s r v e
+described_so s r variables givens v elements place e d g own h i so =
+    so
+    ∙ ap (λ gs. described_with s r gs v place e) g
+    ∙ described_at s r variables v place e (subst (λ es. place < length es) own h) (i ∙ ap (λ es. get_or es place e) own)

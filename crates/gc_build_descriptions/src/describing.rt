@@ -1,0 +1,99 @@
+ghost use Rattle.std.specs.Prelude.{◌≡◌, map, IfOk};
+ghost use Rattle.gc_build_descriptions.specs.Described.{Describes, described, described_variable};
+ghost use Rattle.gc_build_descriptions.specs.Faults.{elements_of};
+ghost use Rattle.gc_build_descriptions.specs.Givens.{described_with, given};
+
+use crate::changes::{add_labels, give, remove_labels, remove_properties};
+use crate::described::{Described, DescribedList, Description, DescriptionList};
+use crate::fault::Refusal;
+use crate::givens::{Given, all_given, elements_of};
+use crate::starts::start_of;
+use gc_base::{Memory, Steps};
+use gc_build_numbers::{Element, Numbering, Setting};
+use gc_build_recipe::{Recipe, Variable};
+use std::sync::ledger::Ledger;
+
+/// The labels and properties of all elements of the variables of a CONSTRUCT, in the order in which they
+/// are numbered. It is refused as `Fault` exactly where an assignment is undefined on a row of a group
+/// of its variable: at the first such assignment in the text, at its least such row.
+pub fn describe<L: Ledger>(
+    setting: &Setting<'_>,
+    recipe: &Recipe,
+    numbering: &Numbering,
+    steps: &mut Steps<L>,
+) -> Result<DescribedList, Refusal>
+    ensures { Describes setting.now recipe.now numbering.now.variables result }
+{
+    let givens = all_given(setting, numbering, &recipe.assignments, steps)?;
+    Ok(all_described(setting, recipe, numbering, givens.as_slice(), steps)?)
+}
+
+// All variables with the descriptions of their elements.
+fn all_described<L: Ledger>(
+    setting: &Setting<'_>,
+    recipe: &Recipe,
+    numbering: &Numbering,
+    givens: &[Given<'_>],
+    steps: &mut Steps<L>,
+) -> Result<DescribedList, Memory>
+    requires { givens.now ≡ map (given setting.now numbering.now.variables) recipe.now.assignments.items }
+    ensures { IfOk result (λ all. all ≡ map (described_variable setting.now recipe.now numbering.now.variables) recipe.now.variables) }
+{
+    let mut all = DescribedList::new(setting.alloc);
+    for variable in recipe.variables.as_slice() {
+        let descriptions = descriptions(setting, recipe, numbering, variable, givens, steps)?;
+        all.push(Described {
+            var: variable.var,
+            descriptions,
+        })?;
+    }
+    Ok(all)
+}
+
+// The descriptions of the elements of a variable.
+fn descriptions<L: Ledger>(
+    setting: &Setting<'_>,
+    recipe: &Recipe,
+    numbering: &Numbering,
+    variable: &Variable,
+    givens: &[Given<'_>],
+    steps: &mut Steps<L>,
+) -> Result<DescriptionList, Memory>
+    requires { givens.now ≡ map (given setting.now numbering.now.variables) recipe.now.assignments.items }
+    ensures { IfOk result (λ all. all ≡ map (described setting.now recipe.now variable.now) (elements_of numbering.now.variables variable.now.var)) }
+{
+    let mut all = DescriptionList::new(setting.alloc);
+    let elements = elements_of(numbering, variable.var);
+    for (place, element) in elements.iter().enumerate() {
+        all.push(described_at(setting, recipe, variable, place, element, givens, steps)?)?;
+    }
+    Ok(all)
+}
+
+// The description of the element at a place among those of a variable.
+fn described_at<L: Ledger>(
+    setting: &Setting<'_>,
+    recipe: &Recipe,
+    variable: &Variable,
+    place: usize,
+    element: &Element,
+    givens: &[Given<'_>],
+    steps: &mut Steps<L>,
+) -> Result<Description, Memory>
+    ensures { IfOk result (λ d. d ≡ described_with setting.now recipe.now givens.now variable.now place element.now) }
+{
+    let alloc = setting.alloc;
+    let var = variable.var;
+    let rows = element.group.rows.as_slice();
+    let mut description = start_of(setting, variable.start, rows, steps)?;
+    add_labels(&mut description, var, recipe.labels.as_slice())?;
+    give(alloc, &mut description, var, place, givens)?;
+    remove_labels(&mut description, var, recipe.lost_labels.as_slice());
+    remove_properties(
+        alloc,
+        &mut description,
+        var,
+        recipe.lost_properties.as_slice(),
+    )?;
+    Ok(description)
+}

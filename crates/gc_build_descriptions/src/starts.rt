@@ -1,0 +1,161 @@
+ghost use Rattle.std.specs.Prelude.{◌≡◌, ◌==◌, [], slice_get, Some, IfOk};
+ghost use Rattle.std.specs.List.{find};
+ghost use Rattle.std.specs.Option.{option_copied, unwrap_or};
+ghost use Rattle.gc_build_descriptions.specs.Assigned.{row_at};
+ghost use Rattle.gc_build_descriptions.specs.Described.{blank, seen_or_blank, start_of};
+ghost use Rattle.gc_build_numbers.specs.Settings.{on_row};
+ghost use Rattle.gc_rows.specs.Rows.{datum_at};
+ghost use Rattle.gc_values.specs.Contexts.{own_graph};
+ghost use Rattle.gc_values.specs.Descriptions.{node_description, edge_description, path_description, described_in};
+
+use crate::assigned::row_at;
+use crate::described::Description;
+use gc_base::{Duplicate, Id, LabelSet, Memory, Properties, Steps, Sym};
+use gc_build_numbers::Setting;
+use gc_ppg::Graph;
+use gc_rows::Datum;
+use gc_values::ReadUse;
+use std::alloc::Global;
+use std::sync::ledger::Ledger;
+
+/// What an element starts with: the labels and properties of this variable on the first of its rows,
+/// or none.
+pub(crate) fn start_of<L: Ledger>(
+    setting: &Setting<'_>,
+    start: Option<Sym>,
+    places: &[u64],
+    steps: &mut Steps<L>,
+) -> Result<Description, Memory>
+    ensures { IfOk result (λ d. d ≡ start_of setting.now start places.now) }
+{
+    match start {
+        None => Ok(blank(setting.alloc)),
+        Some(var) => {
+            let datum = datum_at(setting, var, first(places));
+            described_in(setting.alloc, own_graph(setting, var), datum, steps)
+        }
+    }
+}
+
+// No labels and no properties.
+fn blank(alloc: Global) -> Description
+    ensures { result ≡ blank }
+{
+    Description {
+        labels: LabelSet::empty(alloc),
+        properties: Properties::empty(alloc),
+    }
+}
+
+// The first of places.
+fn first(places: &[u64]) -> u64
+    ensures { result ≡ unwrap_or (slice_get places.now 0) 0 }
+{
+    match places.first() {
+        Some(place) => *place,
+        None => 0,
+    }
+}
+
+// What a variable stands for on the row at a place.
+fn datum_at<'a>(setting: &'a Setting<'_>, var: Sym, place: u64) -> Option<&'a Datum>
+    ensures { option_copied result ≡ datum_at (row_at setting.now place) var }
+{
+    match row_at(setting, place) {
+        Some(row) => row.get(var),
+        None => None,
+    }
+}
+
+// The graph in which a variable's own labels and properties are read, if it has one. It is the same
+// on each row.
+fn own_graph<'a>(setting: &'a Setting<'_>, var: Sym) -> Option<&'a Graph>
+    ensures { option_copied result ≡ own_graph (on_row setting.now []) var }
+{
+    match read_use(setting, var) {
+        Some(read) => setting.graphs.as_slice().get(read.own as usize),
+        None => None,
+    }
+}
+
+// The numbers of a variable's graphs.
+fn read_use<'a>(setting: &'a Setting<'_>, var: Sym) -> Option<&'a ReadUse>
+    ensures { option_copied result ≡ find (λ read. read.var.0 == var.0) setting.now.reads }
+{
+    setting
+        .reads
+        .as_slice()
+        .iter()
+        .find(|read| read.var.0 == var.0)
+}
+
+// The description of what a variable stands for, in a graph.
+fn described_in<L: Ledger>(
+    alloc: Global,
+    graph: Option<&Graph>,
+    datum: Option<&Datum>,
+    steps: &mut Steps<L>,
+) -> Result<Description, Memory>
+    ensures { IfOk result (λ d. d ≡ seen_or_blank (described_in (option_copied graph.entry) (option_copied datum.entry))) }
+{
+    match (graph, datum) {
+        (Some(graph), Some(Datum::Node(id))) => node_described(alloc, graph, *id, steps),
+        (Some(graph), Some(Datum::Edge(id))) => edge_described(alloc, graph, *id, steps),
+        (Some(graph), Some(Datum::Stored(id))) => path_described(alloc, graph, *id, steps),
+        _ => Ok(blank(alloc)),
+    }
+}
+
+// The description of a node of a graph.
+fn node_described<L: Ledger>(
+    alloc: Global,
+    graph: &Graph,
+    id: Id,
+    steps: &mut Steps<L>,
+) -> Result<Description, Memory>
+    ensures { IfOk result (λ d. d ≡ unwrap_or (node_description (Some graph.now) id) blank) }
+{
+    match graph.find_node(id, steps) {
+        Some(node) => Ok(Description {
+            labels: node.labels.copy()?,
+            properties: node.properties.copy()?,
+        }),
+        None => Ok(blank(alloc)),
+    }
+}
+
+// The description of an edge of a graph.
+fn edge_described<L: Ledger>(
+    alloc: Global,
+    graph: &Graph,
+    id: Id,
+    steps: &mut Steps<L>,
+) -> Result<Description, Memory>
+    ensures { IfOk result (λ d. d ≡ unwrap_or (edge_description (Some graph.now) id) blank) }
+{
+    match graph.find_edge(id, steps) {
+        Some(edge) => Ok(Description {
+            labels: edge.labels.copy()?,
+            properties: edge.properties.copy()?,
+        }),
+        None => Ok(blank(alloc)),
+    }
+}
+
+// The description of a stored path of a graph.
+fn path_described<L: Ledger>(
+    alloc: Global,
+    graph: &Graph,
+    id: Id,
+    steps: &mut Steps<L>,
+) -> Result<Description, Memory>
+    ensures { IfOk result (λ d. d ≡ unwrap_or (path_description (Some graph.now) id) blank) }
+{
+    match graph.find_path(id, steps) {
+        Some(path) => Ok(Description {
+            labels: path.labels.copy()?,
+            properties: path.properties.copy()?,
+        }),
+        None => Ok(blank(alloc)),
+    }
+}

@@ -1,0 +1,150 @@
+ghost use Rattle.std.specs.Prelude.{◌≡◌, IfOk, map};
+ghost use Rattle.std.specs.Option.{option_and_then};
+ghost use Rattle.gc_base.specs.Ascending.{Ascends};
+ghost use Rattle.gc_base.specs.Places.{IsPlaceOrGap};
+ghost use Rattle.gc_group.specs.Groups.{key_order};
+ghost use Rattle.gc_build_numbers.specs.Keys.{id_of};
+ghost use Rattle.gc_build_numbers.specs.Numbers.{bound_number, elements_by, which_has, numbered_from, taken_by};
+
+use crate::numbered::Element;
+use gc_base::Memory;
+use gc_build_recipe::Grouping;
+use gc_group::{Group, Key};
+use gc_rows::Datum;
+use std::alloc::Global;
+use std::cmp::Ordering;
+
+/// The elements of groups, in their order; new ones are numbered from `next` on.
+pub(crate) fn elements(
+    alloc: Global,
+    grouping: &Grouping,
+    next: u64,
+    groups: Vec<Group>,
+) -> Result<Vec<Element>, Memory>
+    ensures { IfOk result (λ elements. elements.items ≡ elements_by grouping.now next groups.items) }
+{
+    match grouping {
+        Grouping::Bound => bound(alloc, groups),
+        Grouping::EachRow | Grouping::Terms(_) => numbered(alloc, next, groups),
+        Grouping::Link {
+            source: _,
+            target: _,
+            terms: _,
+        } => numbered(alloc, next, groups),
+    }
+}
+
+/// How many new numbers a number of groups takes.
+pub(crate) fn taken_by(grouping: &Grouping, groups: &[Group]) -> u64
+    ensures { result ≡ taken_by grouping.now groups.now }
+{
+    match grouping {
+        Grouping::Bound => 0,
+        Grouping::EachRow | Grouping::Terms(_) => groups.len() as u64,
+        Grouping::Link {
+            source: _,
+            target: _,
+            terms: _,
+        } => groups.len() as u64,
+    }
+}
+
+// Bound elements, whose numbers are their identities.
+fn bound(alloc: Global, groups: Vec<Group>) -> Result<Vec<Element>, Memory>
+    ensures { IfOk result (λ elements. elements.items ≡ map (λ g. record { number = bound_number g.key; group = g }) groups.items) }
+{
+    let mut elements = Vec::with_capacity(alloc, groups.len())?;
+    for group in groups {
+        elements.push(Element {
+            number: bound_number(&group.key),
+            group,
+        })?;
+    }
+    Ok(elements)
+}
+
+// New elements, which are numbered from this number on.
+fn numbered(alloc: Global, next: u64, groups: Vec<Group>) -> Result<Vec<Element>, Memory>
+    ensures { IfOk result (λ elements. elements.items ≡ numbered_from next groups.items) }
+{
+    let mut elements = Vec::with_capacity(alloc, groups.len())?;
+    let mut number = next;
+    for group in groups {
+        elements.push(Element { number, group })?;
+        number = number.checked_add(1).ok_or(Memory)?;
+    }
+    Ok(elements)
+}
+
+// The identity in the key of a bound element.
+fn bound_number(key: &Key) -> u64
+    ensures { result ≡ bound_number key.now }
+{
+    match key.parts.as_slice().first() {
+        Some(Some(datum)) => id_of(datum).unwrap_or(0),
+        _ => 0,
+    }
+}
+
+// The identity of an element.
+fn id_of(datum: &Datum) -> Option<u64>
+    ensures { result ≡ id_of datum.now }
+{
+    match datum {
+        Datum::Node(id) | Datum::Edge(id) | Datum::Stored(id) => Some(id.get()),
+        _ => None,
+    }
+}
+
+/// For each key of a row, in order, which of the elements has this key, if one does.
+pub(crate) fn which(
+    alloc: Global,
+    keys: &[Option<Key>],
+    elements: &[Element],
+) -> Result<Vec<Option<usize>>, Memory>
+    requires { Ascends key_order (map (λ e. e.group.key) elements.now) }
+    ensures { IfOk result (λ which. which.items ≡ map (option_and_then (which_has elements.now)) keys.now) }
+{
+    let mut which = Vec::with_capacity(alloc, keys.len())?;
+    for key in keys {
+        which.push(which_of(elements, key))?;
+    }
+    Ok(which)
+}
+
+// Which of the elements a row with this key makes, if it has one.
+fn which_of(elements: &[Element], key: &Option<Key>) -> Option<usize>
+    requires { Ascends key_order (map (λ e. e.group.key) elements.now) }
+    ensures { result ≡ option_and_then (which_has elements.now) key.now }
+{
+    match key {
+        None => None,
+        Some(key) => which_has(elements, key),
+    }
+}
+
+// Which of the elements has a key, if one does.
+fn which_has(elements: &[Element], key: &Key) -> Option<usize>
+    requires { Ascends key_order (map (λ e. e.group.key) elements.now) }
+    ensures { result ≡ which_has elements.now key.now }
+{
+    match search(elements, key) {
+        Ok(place) => Some(place),
+        Err(_) => None,
+    }
+}
+
+// Where the element with a key is, or would be.
+fn search(elements: &[Element], key: &Key) -> Result<usize, usize>
+    requires { Ascends key_order (map (λ e. e.group.key) elements.now) }
+    ensures { IsPlaceOrGap (λ e. key_order e.group.key key.now) elements.now result }
+{
+    elements.binary_search_by(|element| key_cmp(&element.group.key, key))
+}
+
+// The order of keys: part by part, unbound first.
+fn key_cmp(a: &Key, b: &Key) -> Ordering
+    ensures { result ≡ key_order a.now b.now }
+{
+    a.parts.as_slice().cmp(b.parts.as_slice())
+}

@@ -1,9 +1,0 @@
-use Rattle.std.proofs.Common.{drop}
-use Rattle.gc_readers.specs.ConstructReaders.{read_new_labels}
-use Rattle.gc_readers.specs.Points.{bare}
-use Rattle.gc_source.proofs.Loops.{list_given}
-use Rattle.gc_constructs.proofs.changes.new_labels.Goals as goal
-
-pub returns : goal.returns
-returns c =
-    list_given c.args.source.now.tokens c.many_labels.result (read_new_labels c.args.room (bare c.args.at) (drop c.args.at c.args.source.now.tokens)) c.many_labels.ensures

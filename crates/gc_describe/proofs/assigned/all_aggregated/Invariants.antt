@@ -1,9 +1,0 @@
-use Rattle.std.proofs.Common.{◌≡◌, map, take}
-use Rattle.gc_describe.specs.Aggregates.{aggregated}
-use Rattle.gc_describe.specs.Assigned.{contexts}
-use Rattle.gc_describe.specs.Standing.{plain}
-use Rattle.gc_describe.proofs.assigned.all_aggregated.Given as goal
-
--- the values of the aggregates so far
-abbrev pub invariant-loop-aggregate : goal.invariant-loop-aggregate
-invariant-loop-aggregate g l = l.values ≡ map (aggregated (contexts l.setting l.places)) (map plain (take l.aggregate-index l.aggregates))

@@ -1,9 +1,0 @@
-use Rattle.std.proofs.Common.{◌≡◌, map, take}
-use Rattle.gc_describe.specs.Aggregates.{operand_value}
-use Rattle.gc_describe.specs.Assigned.{contexts}
-use Rattle.gc_describe.specs.Standing.{plain}
-use Rattle.gc_describe.proofs.assigned.operands.Given as goal
-
--- the values on the rows so far
-abbrev pub invariant-loop-place : goal.invariant-loop-place
-invariant-loop-place g l = l.values.items ≡ map (operand_value (plain l.aggregate).operand) (contexts l.setting (take l.place-index l.places))

@@ -1,7 +1,0 @@
-use Rattle.std.proofs.Common.{◌≡◌, map, take}
-use Rattle.gc_describe.specs.Described.{described_variable}
-use Rattle.gc_describe.proofs.describing.all_described.Given as goal
-
--- the variables so far
-abbrev pub invariant-loop-variable : goal.invariant-loop-variable
-invariant-loop-variable g l = l.all ≡ map (described_variable l.setting l.recipe l.numbering.variables) (take l.variable-index l.variable-items)

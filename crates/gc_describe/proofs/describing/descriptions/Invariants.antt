@@ -1,7 +1,0 @@
-use Rattle.std.proofs.Common.{◌≡◌, map, take}
-use Rattle.gc_describe.specs.Described.{described}
-use Rattle.gc_describe.proofs.describing.descriptions.Given as goal
-
--- the elements so far
-abbrev pub invariant-loop-place : goal.invariant-loop-place
-invariant-loop-place g l = l.all ≡ map (described l.setting l.recipe l.variable) (take l.place l.elements)

@@ -1,0 +1,15 @@
+use Rattle.std.proofs.Common.{◌≡◌, ◌-◌, [], ◌∷◌, drop, map}
+use Rattle.gc_grammar.specs.Readers.{in_front, read_many}
+use Rattle.gc_lex.specs.declared.token.Mark.TheVariants as mark
+use Rattle.gc_grammar.specs.Kinds.{mark_kind}
+use Rattle.gc_grammar.specs.Readers.{read_behind, read_mark}
+use Rattle.gc_parse_readers.specs.PatternReaders.{read_property_use}
+use Rattle.gc_parse_patterns.specs.PatternViews.{property_use_tree}
+use Rattle.gc_parse_readers.specs.Points.{bare}
+use Rattle.gc_parse_patterns.proofs.elements.later_uses.Given as goal
+
+-- what was read and what is still to be read are all that the reader gives
+abbrev pub invariant-loop : goal.invariant-loop
+invariant-loop l =
+    in_front (map (property_use_tree l.source.names) l.uses) (read_many (mark_kind mark.Comma ∷ []) (read_behind (read_mark mark.Comma) read_property_use) (l.room - l.counter) (bare l.at) (drop l.at l.source.tokens))
+    ≡ in_front (property_use_tree l.source.names l.fn.first ∷ []) (read_many (mark_kind mark.Comma ∷ []) (read_behind (read_mark mark.Comma) read_property_use) l.room (bare l.from) (drop l.from l.source.tokens))

@@ -1,0 +1,13 @@
+use Rattle.std.proofs.Common.{◌≡◌, ◌-◌, [], ◌∷◌, drop, map}
+use Rattle.gc_grammar.specs.Readers.{in_front, read_many}
+use Rattle.gc_lex.specs.declared.token.Mark.TheVariants as mark
+use Rattle.gc_grammar.specs.Kinds.{mark_kind}
+use Rattle.gc_parse_readers.specs.PatternReaders.{read_labels}
+use Rattle.gc_parse_readers.specs.Points.{bare}
+use Rattle.gc_parse_patterns.proofs.labels.many_labels.Given as goal
+
+-- what was read and what is still to be read are all that the reader gives
+abbrev pub invariant-loop : goal.invariant-loop
+invariant-loop l =
+    in_front (map (λ g. g) l.groups) (read_many (mark_kind mark.Colon ∷ []) (read_labels l.room) (l.room - l.counter) (bare l.at) (drop l.at l.source.tokens))
+    ≡ in_front [] (read_many (mark_kind mark.Colon ∷ []) (read_labels l.room) l.room (bare l.from) (drop l.from l.source.tokens))

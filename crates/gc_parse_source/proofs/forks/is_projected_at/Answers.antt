@@ -1,0 +1,10 @@
+use Rattle.std.proofs.Common.{sym, ◌∙◌, [], ◌∷◌}
+use Rattle.gc_lex.specs.declared.token.Mark.TheVariants as mark
+use Rattle.gc_grammar.specs.Kinds.{mark_kind, name_kind}
+use Rattle.gc_parse_readers.proofs.Fronts.{begins_next}
+use Rattle.gc_parse_source.proofs.forks.is_projected_at.Goals as goal
+
+pub returns-then-is_at : goal.returns-then-is_at
+returns-then-is_at c =
+    begins_next (mark_kind mark.Minus ∷ []) ((mark_kind mark.Slash ∷ []) ∷ (name_kind ∷ []) ∷ []) c.args.at c.args.source.now.tokens c.is_slash_name_at.result (sym c.is_at.ensures.stands ∙ c.if-is_at.true)
+    c.is_slash_name_at.ensures

@@ -1,0 +1,10 @@
+use Rattle.std.proofs.Common.{sym, ◌∙◌, [], ◌∷◌}
+use Rattle.gc_lex.specs.declared.token.Mark.TheVariants as mark
+use Rattle.gc_grammar.specs.Kinds.{mark_kind, name_kind, word_kind}
+use Rattle.gc_parse_readers.proofs.Fronts.{begins_next}
+use Rattle.gc_parse_source.proofs.forks.is_property_at.Goals as goal
+
+pub returns-then-is_word_at : goal.returns-then-is_word_at
+returns-then-is_word_at c =
+    begins_next (word_kind c.args.word.now ∷ []) ((name_kind ∷ []) ∷ (mark_kind mark.Dot ∷ []) ∷ []) c.args.at c.args.source.now.tokens c.is_name_dot_at.result (sym c.is_word_at.ensures.stands ∙ c.if-is_word_at.true)
+    c.is_name_dot_at.ensures

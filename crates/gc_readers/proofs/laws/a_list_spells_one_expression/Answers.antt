@@ -1,5 +1,0 @@
-use Rattle.gc_readers.proofs.WholeRegex.{regex_alone}
-use Rattle.gc_readers.proofs.laws.a_list_spells_one_expression.Goals as goal
-
-pub returns : goal.returns
-returns c = regex_alone

@@ -1,5 +1,0 @@
-use Rattle.gc_readers.proofs.TokenKinds.{no_mark_kind}
-use Rattle.gc_source.proofs.source.is_mark.Goals as goal
-
-pub returns-in_default : goal.returns-in_default
-returns-in_default c = no_mark_kind c.args.mark c.args.token.now c.in_default.not-Symbol
