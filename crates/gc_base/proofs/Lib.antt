@@ -1,3 +1,4 @@
 pub mod PropertyLaws
 pub mod Search
 pub mod SetLaws
+pub mod WordLaws

@@ -1,6 +1,7 @@
 //! The ground that every crate stands on: names, texts, literals, sets, walks, places and the step
-//! counter. Others rely on one thing above all: orders are total, and a set ascends by its type.
-//! This crate knows of no graph, no file and no query.
+//! counter, and the words by which contracts speak of folders and sinks. Others rely on one thing
+//! above all: the order of literals is total, and a set ascends by its type. This crate knows of no
+//! graph, and of queries only how their parts are numbered.
 #![tactic(auto)]
 
 mod ascending;
@@ -17,8 +18,6 @@ mod properties;
 mod sequence;
 mod sets;
 mod steps;
-#[cfg(test)]
-mod tests;
 mod text;
 mod walk;
 
@@ -38,4 +37,4 @@ pub use sequence::{Bytes, Sequence};
 pub use sets::{LabelSet, ValueSet};
 pub use steps::Steps;
 pub use text::Str;
-pub use walk::{Cost, Step, StepList, Walk, walk_cmp};
+pub use walk::{Cost, Step, StepList, Walk, edges_cmp, walk_cmp};

@@ -101,8 +101,9 @@ impl Duplicate for Cost {
     }
 }
 
-// Lists of edges one after another; of two where one begins the other, the shorter is first.
-fn edges_cmp(steps: &[Step], others: &[Step]) -> Ordering
+/// The order of two lists of steps by their edges, compared one after another; of two where one
+/// begins the other, the shorter is first.
+pub fn edges_cmp(steps: &[Step], others: &[Step]) -> Ordering
     ensures { result ≡ slice_cmp nat_cmp (map (λ step. step.edge) steps.now) (map (λ step. step.edge) others.now) }
 {
     steps

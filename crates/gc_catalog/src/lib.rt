@@ -4,7 +4,5 @@
 #![tactic(auto)]
 
 mod catalog;
-#[cfg(test)]
-mod tests;
 
 pub use catalog::{AddRefusal, Catalog};

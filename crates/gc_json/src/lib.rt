@@ -18,8 +18,6 @@ mod properties;
 mod refusal;
 mod release;
 mod taken;
-#[cfg(test)]
-mod tests;
 mod text;
 mod values;
 mod walks;

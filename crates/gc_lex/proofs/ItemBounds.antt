@@ -16,7 +16,7 @@ use Rattle.gc_lex.specs.Characters.{is_separator, is_hash, is_line_feed, is_quot
 use Rattle.gc_lex.specs.Contents.{Body, Closed, BadEscape, Unclosed, body_of, byte_before, escape_before, escape_of}
 use Rattle.gc_lex.specs.Items.{IsItemIn, word_item, number_item, text_item, symbol_item, item_of, first_item}
 use Rattle.gc_lex.specs.Symbols.{symbols, entry_of}
-use Rattle.gc_lex.proofs.WordFronts.{letter_is_part}
+use Rattle.gc_base.proofs.WordLaws.{letter_is_part}
 
 -- one of two items, whichever a test picks
 choose : (text : List ℕ) (test : Bool) (x y : Item) → (test ≡ true → IsItemIn text x) → (test ≡ false → IsItemIn text y) → IsItemIn text (cond test x y)

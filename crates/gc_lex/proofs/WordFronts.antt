@@ -5,6 +5,7 @@ use Rattle.std.specs.Int.{is_in_range}
 use Rattle.std.specs.List.{list_all, prefix_len}
 use Rattle.std.specs.Char.{is_ascii_alphabetic}
 use Rattle.gc_base.specs.Words.{is_word, is_word_part}
+use Rattle.gc_base.proofs.WordLaws.{letter_is_part}
 
 front_step : (p : ℕ → Bool) (x : ℕ) (xs : List ℕ) (passes : Bool) → p x ≡ passes → list_all p (take (prefix_len p xs) xs) ≡ true → list_all p (take (cond passes (1 + prefix_len p xs) 0) (x ∷ xs)) ≡ true
 front_step p x xs false h rest = refl
@@ -14,15 +15,6 @@ front_step p x xs true h rest = rw one-add (rw h rest)
 front_passes : (p : ℕ → Bool) (xs : List ℕ) → list_all p (take (prefix_len p xs) xs) ≡ true
 front_passes p [] = refl
 front_passes p (x ∷ xs) = front_step p x xs (p x) refl (front_passes p xs)
-
-of_two : (digit upper lower line : Bool) → (upper || lower) ≡ true → (((digit || upper) || lower) || line) ≡ true
-of_two true upper lower line h = refl
-of_two false true lower line h = refl
-of_two false false true line h = refl
-of_two false false false line h = absurd (false≢true h)
-
-pub letter_is_part : (c : ℕ) → is_ascii_alphabetic c ≡ true → is_word_part c ≡ true
-letter_is_part c h = of_two (is_in_range 48 57 c) (is_in_range 65 90 c) (is_in_range 97 122 c) (c == 95) h
 
 -- where a letter stands first, the longest front of letters, digits and low lines is a word
 pub word_front : (text : List ℕ) (n : ℕ) → is_ascii_alphabetic (get_or text 0 0) ≡ true → n ≡ prefix_len is_word_part text → is_word (take n text) ≡ true

@@ -21,5 +21,3 @@ pub use refusal::LexRefusal;
 pub use token::{Mark, Token};
 pub use tokens::Tokens;
 
-#[cfg(test)]
-mod tests;

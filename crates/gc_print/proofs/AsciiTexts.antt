@@ -1,33 +1,17 @@
 -- The texts of regular path expressions are ASCII.
 use Rattle.std.proofs.Common.{◌≡◌, ℕ, ◌<◌, Bool, true, false, nat_lt, List, [], ◌∷◌, ◌++◌, map, refl, arith, cond, codes}
-use Rattle.std.specs.Char.{is_ascii_alphabetic}
 use Rattle.std.specs.List.{AllByRecursion, list_all, join_with_byte}
 use Rattle.std.specs.Str.{IsAscii, is_utf8}
-use Rattle.std.proofs.lemmas.Bool.{and_parts}
-use Rattle.std.proofs.lemmas.Bool.Decides.{nat_tests}
 use Rattle.std.proofs.lemmas.Str.{IsAscii-append, IsUtf8-from_ascii, is_utf8-from_IsUtf8}
 use Rattle.std.proofs.lemmas.Str.Ascii.{IsAscii-nil, IsAscii-cons}
-use Rattle.gc_base.specs.Words.{is_word, is_word_part}
+use Rattle.gc_base.specs.Words.{is_word}
+use Rattle.gc_base.proofs.WordLaws.{word_ascii}
 use Rattle.gc_regx.specs.Trees.{Kind, RegexTree, ARegex, ARow, Label, Back, Any, AnyBack, Test, View, Cat, Alt, Star, none, more}
 use Rattle.gc_print.specs.LooseTrees.{looseness_of, rank}
 use Rattle.gc_print.specs.declared.looseness.Looseness.{Looseness}
 use Rattle.gc_print.specs.declared.looseness.Looseness.TheVariants as loose
 use Rattle.gc_print.specs.RegexTexts.{Part, enclosed, text_of}
 use Rattle.gc_print.specs.Expressions.{IsExpression}
-
-letter_below : (c : ℕ) → is_ascii_alphabetic c ≡ true → c < 128
-letter_below c h = grind (arith, nat_tests)
-
-part_below : (c : ℕ) → is_word_part c ≡ true → c < 128
-part_below c h = grind (arith, nat_tests)
-
-parts_ascii : (cs : List ℕ) → list_all is_word_part cs ≡ true → IsAscii cs
-parts_ascii [] h = IsAscii-nil
-parts_ascii (c ∷ cs) h = let both = and_parts (is_word_part c) _ h in IsAscii-cons c cs (part_below c both.0) (parts_ascii cs both.1)
-
-word_ascii : (cs : List ℕ) → is_word cs ≡ true → IsAscii cs
-word_ascii [] h = IsAscii-nil
-word_ascii (c ∷ cs) h = let both = and_parts (is_ascii_alphabetic c) _ h in IsAscii-cons c cs (letter_below c both.0) (parts_ascii cs both.1)
 
 AreAscii : List Part → Type 0
 AreAscii parts = AllByRecursion (λ part. IsAscii part.text) parts

@@ -1,11 +1,11 @@
 -- The pieces of the texts of regular path expressions, lexed.
 use Rattle.std.proofs.Common.{◌≡◌, ℕ, zero, suc, ◌+◌, ◌<◌, Bool, true, false, not, ◌&&◌, ◌||◌, ◌==◌, List, [], ◌∷◌, ◌++◌, length, take, refl, sym, ap, subst, ◌∙◌, arith, cond, nat_eq, length-append, one-add}
 use Rattle.std.specs.Char.{is_ascii_alphabetic}
-use Rattle.std.specs.Int.{is_in_range}
 use Rattle.std.specs.List.{list_all, prefix_len, starts_with, take_while}
 use Rattle.std.proofs.lemmas.Bool.{false≢true, eqb-true}
 use Rattle.std.proofs.lemmas.List.{take_at}
 use Rattle.gc_base.specs.Words.{is_word, is_word_part}
+use Rattle.gc_base.proofs.WordLaws.{letter_is_part}
 use Rattle.gc_lex.specs.declared.token.Token.{Token}
 use Rattle.gc_lex.specs.declared.token.Token.TheVariants.{Word, Symbol}
 use Rattle.gc_lex.specs.declared.token.Mark.{Mark}
@@ -26,16 +26,7 @@ both_pass : (a b : Bool) → (a && b) ≡ true → (a ≡ true) × (b ≡ true)
 both_pass true b h = (refl, h)
 both_pass false b h = absurd (false≢true h)
 
-of_two : (digit upper lower line : Bool) → (upper || lower) ≡ true → (((digit || upper) || lower) || line) ≡ true
-of_two true upper lower line h = refl
-of_two false true lower line h = refl
-of_two false false true line h = refl
-of_two false false false line h = absurd (false≢true h)
-
--- a letter is part of a word, and is no other character
-letter_is_part : (c : ℕ) → is_ascii_alphabetic c ≡ true → is_word_part c ≡ true
-letter_is_part c h = of_two (is_in_range 48 57 c) (is_in_range 65 90 c) (is_in_range 97 122 c) (c == 95) h
-
+-- a letter is no other character
 no_other : (c d : ℕ) → is_ascii_alphabetic c ≡ true → is_ascii_alphabetic d ≡ false → (c == d) ≡ false
 no_other c d letter other = by (c == d) refl
   where

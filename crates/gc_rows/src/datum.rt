@@ -7,7 +7,7 @@ ghost use Rattle.gc_base.specs.Literals.{literal_order};
 ghost use Rattle.gc_rows.specs.Data.{datum_order, found_order, kind_number, nodes_of};
 ghost use Rattle.gc_rows.specs.DataLaws.{datum_order_total};
 
-use gc_base::{Duplicate, Id, Memory, Step, ValueSet, Walk};
+use gc_base::{Duplicate, Id, Memory, Step, ValueSet, Walk, edges_cmp};
 use std::cmp::Ordering;
 
 /// What a variable stands for in a row.
@@ -119,16 +119,6 @@ fn found_cmp(a: &Walk, b: &Walk) -> Ordering
         .then(a.steps.len().cmp(&b.steps.len()))
         .then_with(|| edges_cmp(a.steps.as_slice(), b.steps.as_slice()))
         .then_with(|| nodes_cmp(a.steps.as_slice(), b.steps.as_slice()))
-}
-
-// The edges of two lists of steps, one after another.
-fn edges_cmp(steps: &[Step], others: &[Step]) -> Ordering
-    ensures { result ≡ slice_cmp nat_cmp (map (λ step. step.edge) steps.now) (map (λ step. step.edge) others.now) }
-{
-    steps
-        .iter()
-        .map(|step| step.edge)
-        .cmp(others.iter().map(|step| step.edge))
 }
 
 // The nodes of two lists of steps, one after another.

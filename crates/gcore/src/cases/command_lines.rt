@@ -1,0 +1,252 @@
+// Words of no form, files that can't be read or are too large, what is not built yet, and the first queries.
+use super::first_failing;
+use std::test::Fail;
+
+const CASES: &str = r##"
+persons-by-label
+$ run q g=a
+a: «labels»
+q: CONSTRUCT (v) MATCH (v:Person)
+= 0 {"edges":[],"gcore":1,"nodes":[{"id":1,"labels":["Person"],"properties":{}}],"paths":[]}
+
+persons-by-label-with-line-feed
+$ run q g=a
+a: «labels»
+q: CONSTRUCT (v) MATCH (v:Person)«line»
+= 0 {"edges":[],"gcore":1,"nodes":[{"id":1,"labels":["Person"],"properties":{}}],"paths":[]}
+
+label-on-empty-graph
+$ run q g=a
+a: {"gcore":1}
+q: CONSTRUCT (v) MATCH (v:Person)
+= 0 {"edges":[],"gcore":1,"nodes":[],"paths":[]}
+
+no-words-refused
+$
+= 2 gcore: usage
+
+run-without-graph-refused
+$ run q
+= 2 gcore: usage
+
+run-with-one-name-twice-refused
+$ run q g=a g=b
+= 2 gcore: usage
+
+run-with-reserved-name-refused
+$ run q ON=a
+= 2 gcore: usage
+
+run-with-empty-file-word-refused
+$ run q g=
+= 2 gcore: usage
+
+check-without-file-refused
+$ check
+= 2 gcore: usage
+
+unknown-command-refused
+$ walk q g=a
+= 2 gcore: usage
+
+make-ring-of-no-nodes-refused
+$ make ring 0 0
+= 2 gcore: usage
+
+missing-graph-file-refused
+$ run q g=zz
+q: CONSTRUCT (v) MATCH (v:Person)
+= 6 gcore: cannot read zz
+
+table-is-no-form-yet
+$ table q g=a
+= 2 gcore: usage
+
+klist-is-no-form-yet
+$ klist q g=a
+= 2 gcore: usage
+
+kcheck-is-no-form-yet
+$ kcheck c
+= 2 gcore: usage
+
+why-is-no-form-yet
+$ why 1 q g=a
+= 2 gcore: usage
+
+stored-path-construction-not-built
+$ run q g=a
+a: {"gcore":1,"nodes":[{"id":2},{"id":3}],"edges":[{"id":12,"from":2,"to":3}],"paths":[{"id":50,"walk":[3,12,2]}]}
+q: CONSTRUCT (n)-/@p/->(m) MATCH (n)-/@p/->(m)
+= 11 gcore: not built
+
+expression-of-most-states-not-built
+$ run q g=s
+q: CONSTRUCT (n) MATCH (n)-/<«511×_ »_>/->(m)
+s: «S»
+= 11 gcore: not built
+
+new-node-not-built
+$ run q S=s
+q: CONSTRUCT (x) MATCH (n)-[e]-(m) WHERE n.name = "Eva"
+s: «S»
+= 11 gcore: not built
+
+optional-not-built
+$ run q S=s
+q: CONSTRUCT (n {k := COUNT(m)}), (m) MATCH (n) WHERE n.name = "Eva" OPTIONAL (n)-[e:likes]->(m)
+s: «S»
+= 11 gcore: not built
+
+set-operation-not-built
+$ run q S=s
+q: S MINUS (CONSTRUCT (n) MATCH (n) WHERE n.name = "Bob")
+s: «S»
+= 11 gcore: not built
+
+exists-not-built
+$ run q S=s
+q: CONSTRUCT (n) MATCH (n) WHERE EXISTS (CONSTRUCT () MATCH (n)-[:knows]->(n))
+s: «S»
+= 11 gcore: not built
+
+two-statements-not-built
+$ run q S=s
+q: S; CONSTRUCT (n {x := 1/0}) MATCH (n)
+s: «S»
+= 11 gcore: not built
+
+reach-not-built
+$ run q S=s
+q: CONSTRUCT (m) MATCH (n)-/<:knows- :knows->/->(m) WHERE n.name = "Cem"
+s: «S»
+= 11 gcore: not built
+
+found-path-not-built
+$ run q S=s
+q: CONSTRUCT (n)-/@p/->(m) MATCH (n)-/4 SHORTEST p<:knows*>/->(m) WHERE n.name = "Ann" AND m.name = "Cem"
+s: «S»
+= 11 gcore: not built
+
+view-not-built
+$ run q S=s
+q: PATH w = (x)-[e:knows]->(y) COST 10/(1+e.msgs) CONSTRUCT (n)-/@p {cost:=c}/->(m) MATCH (n)-/p<~w*> COST c/->(m) WHERE n.name = "Ann" AND m.name = "Cem"
+s: «S»
+= 11 gcore: not built
+
+friends-on-the-way-to-wagner-not-built
+$ run q social=w
+q: «friends»
+w: «W»
+= 11 gcore: not built
+
+graph-named-date-accepted
+$ run q DATE=a
+a: «labels»
+q: CONSTRUCT (v) MATCH (v:Person)
+= 0 {"edges":[],"gcore":1,"nodes":[{"id":1,"labels":["Person"],"properties":{}}],"paths":[]}
+
+pair-without-equals-sign-refused
+$ run q g
+= 2 gcore: usage
+
+pair-without-name-refused
+$ run q =a
+= 2 gcore: usage
+
+name-that-begins-with-a-digit-refused
+$ run q 1g=a
+= 2 gcore: usage
+
+empty-query-word-refused
+$ run «» g=a
+= 2 gcore: usage
+
+check-of-empty-word-refused
+$ check «»
+= 2 gcore: usage
+
+check-of-two-words-refused
+$ check a q
+= 2 gcore: usage
+
+nine-graphs-refused
+$ run q b=a c=a d=a e=a f=a g=a h=a i=a j=a
+= 2 gcore: usage
+
+make-ring-past-its-limit-refused
+$ make ring 2001 0
+= 2 gcore: usage
+
+make-random-past-its-limit-refused
+$ make random 32769 0
+= 2 gcore: usage
+
+make-start-past-its-limit-refused
+$ make ring 5 2147483648
+= 2 gcore: usage
+
+make-size-of-eleven-digits-refused
+$ make ring 00000000005 0
+= 2 gcore: usage
+
+make-of-unknown-kind-refused
+$ make star 5 0
+= 2 gcore: usage
+
+why-of-seventeen-digits-refused
+$ why 12345678901234567 q g=a
+= 2 gcore: usage
+
+why-past-the-greatest-identity-refused
+$ why 9007199254740992 q g=a
+= 2 gcore: usage
+
+pair-split-at-its-first-equals-sign
+$ run q g=a=b
+a=b: «labels»
+q: CONSTRUCT (v) MATCH (v:Person)
+= 0 {"edges":[],"gcore":1,"nodes":[{"id":1,"labels":["Person"],"properties":{}}],"paths":[]}
+
+table-with-reserved-name-refused
+$ table q SELECT=a
+= 2 gcore: usage
+
+run-with-a-name-reserved-in-tables-alone
+$ run q SELECT=a
+a: «labels»
+q: CONSTRUCT (v) MATCH (v:Person)
+= 0 {"edges":[],"gcore":1,"nodes":[{"id":1,"labels":["Person"],"properties":{}}],"paths":[]}
+
+graph-file-before-the-words-end
+$ run q g
+= 2 gcore: usage
+
+command-of-two-files-of-one-name-too-many
+$ check c d
+= 2 gcore: usage
+
+certificate-without-graph-refused
+$ cert q
+= 2 gcore: usage
+
+make-of-the-greatest-ring-not-built
+$ make ring 2000 0
+= 11 gcore: not built
+
+make-of-the-greatest-random-graph-not-built
+$ make random 0000032768 2147483647
+= 11 gcore: not built
+
+item-that-is-no-variable-not-built
+$ run q g=a
+a: «labels»
+q: CONSTRUCT (v) MATCH (w:Person)
+= 11 gcore: not built
+"##;
+
+#[test]
+fn command_lines_come_to_what_is_due(rt: HostRuntime) -> Result<(), Fail> {
+    assert_eq!(rt; first_failing(rt.alloc(), CASES)?, None);
+    Ok(())
+}
