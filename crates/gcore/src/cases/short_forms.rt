@@ -43,7 +43,18 @@ const WAGNER: &str = r#"{"gcore":1,"nodes":[
 {"id":19,"from":7,"to":6,"labels":["reply_of"]}]}
 "#;
 
-/// The canonical texts of elements of the two.
+/// Two persons, an edge and a loop between them, and a stored path along both.
+const PATHS: &str = r#"{"gcore":1,"nodes":[
+{"id":1,"labels":["Person"],"properties":{"name":"Ann"}},
+{"id":4,"labels":["Boss","Person"],"properties":{"employer":["MIT","CWI"],"name":"Dea"}}],
+"edges":[
+{"id":11,"from":4,"to":1,"labels":["knows"],"properties":{"msgs":3}},
+{"id":16,"from":4,"to":4,"labels":["knows","likes"],"properties":{"msgs":0}}],
+"paths":[
+{"id":20,"walk":[4,16,4,11,1],"labels":["way"],"properties":{"cost":7}}]}
+"#;
+
+/// The canonical texts of elements of the three.
 const ELEMENTS: &str = r#"N1={"id":1,"labels":["Person"],"properties":{"name":["Ann"]}}
 N2={"id":2,"labels":["Person"],"properties":{"name":["Bob"]}}
 N3={"id":3,"labels":["Person"],"properties":{"name":["Cem"]}}
@@ -56,6 +67,7 @@ E14={"from":4,"id":14,"labels":["knows"],"properties":{"msgs":[0]},"to":3}
 E15={"from":3,"id":15,"labels":["knows"],"properties":{"msgs":[0]},"to":1}
 E16={"from":5,"id":16,"labels":["knows"],"properties":{"msgs":[0]},"to":5}
 E17={"from":1,"id":17,"labels":["knows"],"properties":{"msgs":[3]},"to":2}
+P4={"id":4,"labels":["Boss","Person"],"properties":{"employer":["CWI","MIT"],"name":["Dea"]}}
 W1={"id":1,"labels":["Person"],"properties":{"firstName":["John"]}}
 W2={"id":2,"labels":["Person"],"properties":{"firstName":["Peter"]}}
 W3={"id":3,"labels":["Person"],"properties":{"firstName":["Celine"]}}"#;
@@ -96,6 +108,7 @@ fn named(name: &str) -> Result<&'static str, Fail> {
         "labels" => Ok(LABELS),
         "S" => Ok(SOCIAL),
         "W" => Ok(WAGNER),
+        "P" => Ok(PATHS),
         "friends" => Ok(FRIENDS),
         "line" => Ok("\n"),
         "return" => Ok("\r"),

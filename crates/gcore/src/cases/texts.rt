@@ -170,6 +170,30 @@ $ run q g=a
 a: «labels»
 q: x«line» é
 = 3 gcore: L2 BadCharacter 2:2
+
+two-alternatives-and-a-star-not-built
+$ run q g=a
+a: «labels»
+q: PATH v = (x)-[]->(y) CONSTRUCT (n) MATCH (n)-/<:knows- | _* (!:Person ~v)>/->(m)
+= 11 gcore: not built
+
+expression-in-two-brackets-not-built
+$ run q g=a
+a: «labels»
+q: CONSTRUCT (n) MATCH (n)-/<((_-))>/->(m)
+= 11 gcore: not built
+
+bracket-that-closes-nothing-in-an-expression-p2
+$ run q g=a
+a: «labels»
+q: CONSTRUCT (n) MATCH (n)-/<:a ) :b>/->(m)
+= 3 gcore: P2 Syntax 1:30
+
+expression-that-ends-with-the-text-p2
+$ run q g=a
+a: «labels»
+q: CONSTRUCT (n) MATCH (n)-/<(:a |
+= 3 gcore: P2 Syntax 1:32
 "##;
 
 #[test]
