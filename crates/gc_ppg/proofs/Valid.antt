@@ -1,15 +1,12 @@
 -- A graph with one more element is a graph.
-use Rattle.std.proofs.Common.{◌≡◌, ℕ, Bool, true, false, ◌||◌, ◌&&◌, ◌==◌, List, [], ◌∷◌, ◌++◌, refl, sym, ap, ◌∙◌, subst, None, append_assoc, append-nil}
-use Rattle.std.specs.Ordering.{is_eq}
-use Rattle.std.specs.declared.cmp.Ordering.TheVariants.{Less}
-use Rattle.std.specs.Cmp.{nat_cmp_total, on_total, unsigned_tied, nat_eq_equiv}
-use Rattle.std.specs.List.{AllByRecursion, filter}
+use Rattle.std.proofs.Common.{◌≡◌, ℕ, Bool, true, false, ◌&&◌, ◌==◌, List, [], ◌∷◌, ◌++◌, refl, sym, ap, ◌∙◌, subst, None, append_assoc, append-nil}
+use Rattle.std.specs.Cmp.{nat_cmp_total, on_total}
 use Rattle.std.proofs.lemmas.Bool.{and_parts}
 use Rattle.std.proofs.lemmas.List.Folds.{list_any-append}
 use Rattle.gc_base.specs.Ascending.{Ascends, with_item}
 use Rattle.gc_base.specs.declared.walk.Step.{Step}
 use Rattle.gc_base.proofs.Search.{AllByRecursion-weaker}
-use Rattle.gc_base.proofs.SetLaws.{Ascends-with_item, AllByRecursion-with_item, Ascends-filter, AllByRecursion-filter}
+use Rattle.gc_base.proofs.SetLaws.{Ascends-with_item, AllByRecursion-with_item}
 use Rattle.gc_spec.specs.PropertyGraph.{Node, Edge, Path, IsNode, IsEdge, IsPath, IsGraph, PropertyGraph, node_order, edge_order, path_order, node_ids, edge_ids, path_ids, is_among, is_joined, are_steps_from, is_walk, AreDistinct, ids_of}
 use Rattle.gc_ppg.specs.Built.{with_node, with_edge, with_path, missing_end, IsEdgeAlone, IsPathAlone}
 use Rattle.gc_ppg.proofs.ElementLists.{or_false, or_right, is_among-with_item, list_any-with_item, AreDistinct-with_item}
@@ -106,36 +103,9 @@ IsGraph-with_path g p h one f there =
           (record { id = one.id; walk = there; labels = one.labels; properties = one.properties });
     }
 
-above_others : (ns : List Node) (n : Node) → AllByRecursion (λ m. node_order n m ≡ Less) ns → is_among (node_ids ns) n.id ≡ false
-above_others [] n h = refl
-above_others (m ∷ ns) n h = λ i. (nat_eq_equiv.symm m.id n.id ∙ (sym (unsigned_tied n.id m.id) ∙ ap is_eq h.0)) i || above_others ns n h.1 i
-
--- ascending nodes have identities of their own
-distinct_from_ascends : (ns : List Node) → Ascends node_order ns → AreDistinct (node_ids ns)
-distinct_from_ascends [] h = tt
-distinct_from_ascends (n ∷ ns) h = (above_others ns n h.0, distinct_from_ascends ns h.1)
-
 abbrev pub only_nodes : List Node → PropertyGraph
 only_nodes ns = record { nodes = ns; edges = []; paths = [] }
-
--- some of the nodes of a graph are a graph
-pub IsGraph-filter : (p : Node → Bool) (g : PropertyGraph) → IsGraph g → IsGraph (only_nodes (filter p g.nodes))
-IsGraph-filter p g h =
-    let up : Ascends node_order (filter p g.nodes) = Ascends-filter node_order (on_total (λ m. m.id) nat_cmp_total) p g.nodes h.nodes_ascend in
-    record {
-      nodes_ascend = up;
-      edges_ascend = tt;
-      paths_ascend = tt;
-      distinct = subst AreDistinct (sym (append-nil (node_ids (filter p g.nodes) ++ []) ∙ append-nil (node_ids (filter p g.nodes)))) (distinct_from_ascends _ up);
-      nodes = AllByRecursion-filter IsNode p g.nodes h.nodes;
-      edges = tt;
-      paths = tt;
-    }
 
 -- the graph of nothing
 pub IsGraph-empty : IsGraph (only_nodes [])
 IsGraph-empty = record { nodes_ascend = tt; edges_ascend = tt; paths_ascend = tt; distinct = tt; nodes = tt; edges = tt; paths = tt }
-
-pub IsGraph-filter_as : (p : Node → Bool) (g : PropertyGraph) → IsGraph g → (ns : List Node) (es : List Edge) (ps : List Path) → ns ≡ filter p g.nodes → es ≡ [] → ps ≡ []
-    → IsGraph (record { nodes = ns; edges = es; paths = ps })
-IsGraph-filter_as p g h ns es ps a b c = subst IsGraph (λ i. record { nodes = sym a i; edges = sym b i; paths = sym c i }) (IsGraph-filter p g h)

@@ -4,7 +4,6 @@ pub mod FreeIds
 pub mod KeyedPlaces
 pub mod LabelPlaces
 pub mod LabelReads
-pub mod Labelled
 pub mod LabelledIds
 pub mod Reads
 pub mod Refusals

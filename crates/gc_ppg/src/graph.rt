@@ -2,7 +2,6 @@ ghost use Rattle.std.specs.Prelude.{◌≡◌, ◌+◌, ◌<◌, ◌==◌, lengt
 ghost use Rattle.std.specs.List.{filter};
 ghost use Rattle.std.specs.Option.{option_copied, option_and_then};
 ghost use Rattle.gc_spec.specs.PropertyGraph.{IsGraph, node_at, edge_at, path_at};
-ghost use Rattle.gc_ppg.specs.Labelled.{has_label, nodes_with_label};
 ghost use Rattle.gc_ppg.specs.FreeIds.{above, first_free};
 ghost use Rattle.gc_ppg.specs.Reads.{handed_out};
 ghost use Rattle.gc_ppg.specs.KeyedPlaces.{AreEnds};
@@ -285,15 +284,6 @@ impl Graph {
     {
         &self.paths
     }
-
-    /// The graph of exactly the nodes that have a label, with their labels and properties, and
-    /// without edges and paths.
-    pub fn labelled(&self, alloc: Global, label: &Name) -> Result<Graph, Memory>
-        ensures { IfOk result (λ g. g ≡ nodes_with_label self.now label.now) }
-    {
-        let kept = labelled_nodes(alloc, self.nodes(), label)?;
-        Graph::of_elements(alloc, kept, Vec::new(alloc), Vec::new(alloc))
-    }
 }
 
 // The first number from one on that is above the identities of some elements.
@@ -359,19 +349,6 @@ fn by_target(alloc: Global, edges: &[EdgeInfo]) -> Result<Places, Memory>
         places.push(PlaceAt { key, place })?;
     }
     Places::of(places)
-}
-
-// Copies of the nodes that have a label, in their order.
-fn labelled_nodes(alloc: Global, nodes: &[NodeInfo], label: &Name) -> Result<Vec<NodeInfo>, Memory>
-    ensures { IfOk result (λ kept. kept.items ≡ filter (has_label label.now) nodes.now) }
-{
-    let mut kept = Vec::new(alloc);
-    for node in nodes {
-        if node.labels.contains(label) {
-            kept.push(node.copy()?)?;
-        }
-    }
-    Ok(kept)
 }
 
 // An answer, with one step where an element is handed out.
