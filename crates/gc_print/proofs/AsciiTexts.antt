@@ -13,7 +13,7 @@ use Rattle.gc_print.specs.LooseTrees.{looseness_of, rank}
 use Rattle.gc_print.specs.declared.looseness.Looseness.{Looseness}
 use Rattle.gc_print.specs.declared.looseness.Looseness.TheVariants as loose
 use Rattle.gc_print.specs.RegexTexts.{Part, enclosed, text_of}
-use Rattle.gc_print.specs.Expressions.{IsExpression}
+use Rattle.gc_regx.specs.Expressions.{IsFormed, IsExpression}
 
 letter_below : (c : ℕ) → is_ascii_alphabetic c ≡ true → c < 128
 letter_below c h = grind (arith, nat_tests)
@@ -58,7 +58,7 @@ Ascii ARegex tree = IsAscii (text_of tree)
 Ascii ARow parts = AreAscii (text_of parts)
 
 text_ascii : {k : Kind} (tree : RegexTree k) → IsExpression tree → Ascii k tree
-unfolding Ascii AreAscii text_of IsExpression
+unfolding Ascii AreAscii text_of IsFormed
 text_ascii (Label l) is = behind_byte 58 l (omega arith) (word_ascii l is)
 text_ascii (Back l) is = behind_byte 58 (l ++ 45 ∷ []) (omega arith) (before_byte l 45 (omega arith) (word_ascii l is))
 text_ascii Any is = behind_byte 95 [] (omega arith) IsAscii-nil
