@@ -5,14 +5,10 @@
 mod build_construct;
 mod build_query;
 mod construct;
-mod copy_pattern;
-mod copy_query;
 mod file;
 mod names;
 mod pattern;
 mod query;
-#[cfg(test)]
-mod tests;
 
 pub use construct::{
     Assign, AssignList, Change, ChangeList, ConstructPart, ConstructPartList, GroupTerm,

@@ -1,23 +1,11 @@
 -- The states of expressions.
-use Rattle.std.proofs.Common.{◌≡◌, ℕ, ◌+◌, ◌-◌, ◌^◌, ◌≤◌, min, arith, length, drop, List, [], ◌∷◌, map, refl, sym, ap, ◌∙◌, rules, Vec, Box, Global}
+use Rattle.std.proofs.Common.{◌≡◌, ℕ, ◌+◌, ◌-◌, ◌^◌, ◌≤◌, min, arith, length, drop, List, [], ◌∷◌, map, refl, sym, ap, ◌∙◌, Vec, Box, Global}
 use Rattle.std.proofs.lemmas.List.{at_drop_all}
-use Rattle.gc_regx.specs.Trees as tree
 use Rattle.gc_regx.specs.Trees.{RegexTree, ARegex, row}
 use Rattle.gc_regx.specs.Views.{regex_tree}
-use Rattle.gc_regx.specs.declared.regex.Regex.{Regex, Cat, Alt, Star, the_lemmas}
+use Rattle.gc_regx.proofs.PartTrees.{cat_tree, alt_tree, star_tree}
+use Rattle.gc_regx.specs.declared.regex.Regex.{Regex, Cat, Alt, Star}
 use Rattle.gc_automata.specs.Automata.{Automaton, automaton_of, states_in, in_turn, one_of, star_of}
-
-cat_tree : (parts : Vec Regex Global) → regex_tree (Cat parts) ≡ tree.Cat (row (map regex_tree parts.items))
-unfolding regex_tree
-cat_tree parts = search (rules, the_lemmas)
-
-alt_tree : (parts : Vec Regex Global) → regex_tree (Alt parts) ≡ tree.Alt (row (map regex_tree parts.items))
-unfolding regex_tree
-alt_tree parts = search (rules, the_lemmas)
-
-star_tree : (part : Box Regex Global) → regex_tree (Star part) ≡ tree.Star (regex_tree part.value)
-unfolding regex_tree
-star_tree part = search (rules, the_lemmas)
 
 -- the automata of a row are those of its expressions
 pub row_automata : {X : Type 0} (tree : X → RegexTree ARegex) (xs : List X) → automaton_of (row (map tree xs)) ≡ map (λ x. automaton_of (tree x)) xs

@@ -11,7 +11,7 @@ use Rattle.gc_automata.specs.Moves.{Network, IsNetwork, IsThere, Goes, Stays, jo
 use Rattle.gc_automata.specs.Conformance.{Fact, Facts, Follow, InTurn, OneOf, Moving, Turns, conforms, Conforms}
 use Rattle.gc_automata.specs.Automata.{Automaton, AutomataOf, go, skip, symbol, states_in, transitions_in_turn, in_turn, transitions_of_branches, one_of, star_of, automaton_of}
 use Rattle.gc_automata.specs.Runs.{Move, RunsIn, Runs}
-use Rattle.gc_automata.specs.WithParts.{IsSome, HasParts}
+use Rattle.gc_regx.specs.Expressions.{IsFormed, IsSome, HasParts}
 use Rattle.gc_automata.proofs.Inclusion.{among_more, among_none}
 use Rattle.gc_automata.proofs.Lawful.{IsLawful, AreLawful, Lawful, conforms_lawful, goes_lawful}
 use Rattle.gc_automata.proofs.Ranges.{HasRange, HaveRanges, RangeOf, Among, before, itself, behind, among_parts, turn_range, branches_range, InStar, into, past, own, again, out, in_star, expression_range}
@@ -470,7 +470,7 @@ some_exits network (more part parts) some ranges all =
     turn_exits network (automaton_of part) (automaton_of parts) (conforms network part) (conforms network parts) ranges all
 
 expression_exits : (network : Network) → IsNetwork network → {k : Kind} (tree : RegexTree k) → HasParts tree → ExitsKind network k (automaton_of tree) (conforms network tree)
-unfolding ExitsKind ExitAll RangeOf Lawful HasParts conforms automaton_of
+unfolding ExitsKind ExitAll RangeOf Lawful IsFormed conforms automaton_of
 expression_exits network is (Label l) parts = symbol_exits network (on.Label l)
 expression_exits network is (Back l) parts = symbol_exits network (on.Back l)
 expression_exits network is Any parts = symbol_exits network on.Any
@@ -478,7 +478,7 @@ expression_exits network is AnyBack parts = symbol_exits network on.AnyBack
 expression_exits network is (Test l) parts = symbol_exits network (on.Test l)
 expression_exits network is (View v) parts = symbol_exits network (on.View v)
 expression_exits network is (Cat row) parts = some_exits network row parts.0 (expression_range row parts.1) (expression_exits network is row parts.1)
-expression_exits network is (Alt row) parts = one_exits network (automaton_of row) (conforms network row) (expression_range row parts) (expression_exits network is row parts)
+expression_exits network is (Alt row) parts = one_exits network (automaton_of row) (conforms network row) (expression_range row parts.1) (expression_exits network is row parts.1)
 expression_exits network is (Star part) parts =
     star_exits network (automaton_of part) (conforms network part) (conforms_lawful network is part) (expression_range part parts) (expression_exits network is part parts)
 expression_exits network is none parts = tt

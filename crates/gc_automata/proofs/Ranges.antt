@@ -7,7 +7,7 @@ use Rattle.gc_automata.specs.declared.transition.On.{On}
 use Rattle.gc_automata.specs.declared.transition.On.TheVariants as on
 use Rattle.gc_automata.specs.declared.transition.Transition.{Transition}
 use Rattle.gc_automata.specs.Automata.{Automaton, AutomataOf, go, skip, symbol, states_in, transitions_in_turn, in_turn, transitions_of_branches, one_of, star_of, automaton_of}
-use Rattle.gc_automata.specs.WithParts.{IsSome, HasParts}
+use Rattle.gc_regx.specs.Expressions.{IsFormed, IsSome, HasParts}
 use Rattle.gc_automata.proofs.Inclusion.{among_more, among_none}
 
 -- there are states, and each transition leaves one of them that is not the last
@@ -148,7 +148,7 @@ some_range none some all = absurd some
 some_range (more part parts) some all = turn_range (automaton_of part) (automaton_of parts) all
 
 pub expression_range : {k : Kind} (tree : RegexTree k) → HasParts tree → RangeOf k (automaton_of tree)
-unfolding RangeOf HaveRanges HasParts automaton_of
+unfolding RangeOf HaveRanges IsFormed automaton_of
 expression_range (Label l) is = symbol_range (on.Label l)
 expression_range (Back l) is = symbol_range (on.Back l)
 expression_range Any is = symbol_range on.Any
@@ -156,7 +156,7 @@ expression_range AnyBack is = symbol_range on.AnyBack
 expression_range (Test l) is = symbol_range (on.Test l)
 expression_range (View v) is = symbol_range (on.View v)
 expression_range (Cat parts) is = some_range parts is.0 (expression_range parts is.1)
-expression_range (Alt parts) is = one_range (automaton_of parts) (expression_range parts is)
+expression_range (Alt parts) is = one_range (automaton_of parts) (expression_range parts is.1)
 expression_range (Star part) is = star_range (automaton_of part) (expression_range part is)
 expression_range none is = tt
 expression_range (more part parts) is = (expression_range part is.0, expression_range parts is.1)

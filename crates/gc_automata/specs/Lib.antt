@@ -4,4 +4,3 @@ pub mod Conformance
 pub mod Machines
 pub mod Moves
 pub mod Runs
-pub mod WithParts

@@ -5,7 +5,7 @@ ghost use Rattle.gc_automata.specs.Automata.{automaton_of};
 ghost use Rattle.gc_automata.specs.Conformance.{Conforms};
 ghost use Rattle.gc_automata.specs.Moves.{Network, IsNetwork};
 ghost use Rattle.gc_automata.specs.Runs.{Runs};
-ghost use Rattle.gc_automata.specs.WithParts.{HasParts};
+ghost use Rattle.gc_regx.specs.Expressions.{HasParts};
 
 /// The run law. On a network whose edges and segments go from node to node, a run of an expression's
 /// automaton from the first state to the last passes a walk at a cost exactly where the walk conforms

@@ -6,8 +6,6 @@
 mod build;
 mod copy;
 mod expr;
-#[cfg(test)]
-mod tests;
 
 pub use expr::{
     Comparison, Expr, ExprList, ExprNode, Fold, ProductOp, ProductPart, ProductPartList, SumPart,

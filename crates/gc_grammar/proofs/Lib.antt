@@ -1,13 +1,2 @@
 pub mod Chains
-pub mod Forks
-pub mod KindLaws
-pub mod RightBoth
-pub mod RightBrackets
-pub mod RightChoices
-pub mod RightFork
-pub mod RightMany
-pub mod RightTokens
 pub mod Spellings
-pub mod Taken
-pub mod WayChoices
-pub mod Ways

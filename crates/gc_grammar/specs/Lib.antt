@@ -1,10 +1,7 @@
 pub mod Constructs
 pub mod Examples
 pub mod Expressions
-pub mod Kinds
 pub mod Patterns
 pub mod Queries
-pub mod Readers
 pub mod Regexes
-pub mod Right
 pub mod Words

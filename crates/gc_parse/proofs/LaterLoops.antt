@@ -7,7 +7,7 @@ use Rattle.std.proofs.lemmas.List.{append-nil, map-append}
 use Rattle.gc_lex.specs.declared.token.Token.{Token}
 use Rattle.gc_lex.specs.declared.token.Mark.TheVariants as mark
 use Rattle.gc_grammar.specs.Words.{Point}
-use Rattle.gc_grammar.specs.Readers.{Reader, Reading, Got, Stuck, then_read, in_front, read_mark, read_both, read_made}
+use Rattle.gc_parse_readers.specs.Readers.{Reader, Reading, Got, Stuck, then_read, in_front, read_mark, read_both, read_made}
 use Rattle.gc_parse_readers.specs.LaterReaders.{ended, read_next, read_unless_ended}
 use Rattle.gc_parse_readers.specs.QueryReaders.{read_later, read_unless_end}
 use Rattle.gc_parse_source.specs.declared.refusal.Refusal.{Refusal}

@@ -2,7 +2,7 @@
 use Rattle.std.proofs.Common.{◌≡◌, refl, sym, ap, subst, ◌∙◌, ℕ, zero, suc, ◌+◌, ◌-◌, List, [], ◌∷◌, ◌++◌, length, take, drop, Result, Ok, Err, Some, None, slice_get}
 use Rattle.gc_ast.specs.Trees.{Tree, AStatement}
 use Rattle.gc_lex.specs.declared.token.Token.{Token}
-use Rattle.gc_grammar.specs.Readers.{Got, Stuck}
+use Rattle.gc_parse_readers.specs.Readers.{Got, Stuck}
 use Rattle.gc_grammar.specs.Queries.{SpellsFile, start}
 use Rattle.gc_parse_source.specs.declared.refusal.Refusal.{Refusal}
 use Rattle.gc_parse_source.specs.declared.refusal.Refusal.TheVariants as refusal

@@ -6,7 +6,7 @@ use Rattle.gc_parse.specs.declared.refusal.ParseRefusal.TheVariants.{TooDeep, Sy
 use Rattle.gc_parse_source.specs.declared.refusal.Refusal.{Refusal}
 use Rattle.gc_parse_source.specs.declared.refusal.Refusal.TheVariants as refusal
 use Rattle.gc_ast.specs.Trees.{Tree, AStatement}
-use Rattle.gc_grammar.specs.Readers.{Reading, Got, Stuck}
+use Rattle.gc_parse_readers.specs.Readers.{Reading, Got, Stuck}
 use Rattle.gc_parse_readers.specs.QueryReaders.{file_reading}
 use Rattle.gc_parse_readers.specs.Refusals.{IsRefusedAt}
 use Rattle.gc_parse.specs.Depths.{IsDepthFault, depth_fault_in}

@@ -1,7 +1,7 @@
 ghost use Rattle.std.specs.Prelude.{◌-◌, ◌<◌, ◌∷◌, [], drop, map, codes};
 ghost use Rattle.gc_ast.specs.QueryViews.{basic_tree, block_tree, optional_tree};
-ghost use Rattle.gc_grammar.specs.Kinds.{word_kind};
-ghost use Rattle.gc_grammar.specs.Readers.{read_many};
+ghost use Rattle.gc_parse_readers.specs.Kinds.{word_kind};
+ghost use Rattle.gc_parse_readers.specs.Readers.{read_many};
 ghost use Rattle.gc_parse_readers.specs.QueryReaders.{nested, read_basic, read_block, read_optional_block};
 ghost use Rattle.gc_parse_source.specs.Results.{Gives};
 ghost use Rattle.gc_parse_readers.specs.Points.{bare};

@@ -1,7 +1,7 @@
 ghost use Rattle.std.specs.Prelude.{◌≡◌, ◌-◌, ◌<◌, ◌∷◌, [], drop, map};
 ghost use Rattle.std.specs.Option.{option_map};
 ghost use Rattle.gc_ast.specs.QueryViews.{statement_tree};
-ghost use Rattle.gc_grammar.specs.Readers.{in_front};
+ghost use Rattle.gc_parse_readers.specs.Readers.{in_front};
 ghost use Rattle.gc_parse_readers.specs.LaterReaders.{ended, read_next, read_unless_ended};
 ghost use Rattle.gc_parse_readers.specs.QueryReaders.{nested, read_file, read_later, read_statement, read_view_statement};
 ghost use Rattle.gc_parse_source.specs.Results.{Gives};

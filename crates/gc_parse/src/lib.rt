@@ -11,8 +11,6 @@ mod parsing;
 mod path_heads;
 mod queries;
 mod refusal;
-#[cfg(test)]
-mod tests;
 
 pub use parsing::{parse, parse_regex};
 pub use refusal::ParseRefusal;

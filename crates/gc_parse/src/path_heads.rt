@@ -2,7 +2,7 @@ ghost use Rattle.std.specs.Prelude.{◌-◌, ◌<◌, codes, drop};
 ghost use Rattle.std.specs.Option.{option_map};
 ghost use Rattle.gc_ast.specs.QueryViews.{formula_tree, head_tree};
 ghost use Rattle.gc_ast.specs.Trees.{maybe};
-ghost use Rattle.gc_grammar.specs.Readers.{read_both};
+ghost use Rattle.gc_parse_readers.specs.Readers.{read_both};
 ghost use Rattle.gc_parse_readers.specs.Points.{bare};
 ghost use Rattle.gc_parse_readers.specs.QueryReaders.{nested, read_condition_if, read_path_head, read_where};
 ghost use Rattle.gc_parse_source.specs.Results.{Gives};

@@ -2,9 +2,9 @@ ghost use Rattle.std.specs.Prelude.{◌≡◌, ◌-◌, ◌<◌, ◌∷◌, [], 
 ghost use Rattle.gc_ast.specs.PatternViews.{named};
 ghost use Rattle.gc_ast.specs.QueryViews.{head_tree, next_term_tree, query_tree, term_tree};
 ghost use Rattle.gc_expr.specs.Views.{Names};
-ghost use Rattle.gc_grammar.specs.Kinds.{begins, word_kind};
+ghost use Rattle.gc_parse_readers.specs.Kinds.{begins, word_kind};
 ghost use Rattle.gc_grammar.specs.Queries.{as_query, as_term};
-ghost use Rattle.gc_grammar.specs.Readers.{read_many};
+ghost use Rattle.gc_parse_readers.specs.Readers.{read_many};
 ghost use Rattle.gc_parse_readers.specs.ExpressionReaders.{read_in_parentheses};
 ghost use Rattle.gc_parse_readers.specs.QueryReaders.{nested, read_head, read_named_query, read_next_term, read_query, read_set_op, read_term, set_op_kinds};
 ghost use Rattle.gc_parse_source.specs.Results.{Gives};

@@ -1,8 +1,8 @@
 ghost use Rattle.std.specs.Prelude.{◌-◌, ◌<◌, ◌∷◌, [], drop, map};
 ghost use Rattle.gc_lex.specs.declared.token.Mark.TheVariants as mark;
 ghost use Rattle.gc_ast.specs.QueryViews.{item_tree, part_tree};
-ghost use Rattle.gc_grammar.specs.Kinds.{mark_kind};
-ghost use Rattle.gc_grammar.specs.Readers.{in_front, read_both, read_many, read_behind, read_separated, read_mark};
+ghost use Rattle.gc_parse_readers.specs.Kinds.{mark_kind};
+ghost use Rattle.gc_parse_readers.specs.Readers.{in_front, read_both, read_many, read_behind, read_separated, read_mark};
 ghost use Rattle.gc_parse_readers.specs.ConstructReaders.{read_cchain, read_clink, read_cnode, read_chain_item, read_item, read_new_path, read_new_stored};
 ghost use Rattle.gc_parse_source.specs.Turns.{in_front_in_turn};
 ghost use Rattle.gc_parse_readers.specs.PatternReaders.{link_kinds};

@@ -1,8 +1,8 @@
 ghost use Rattle.std.specs.Prelude.{◌-◌, ◌<◌, ◌∷◌, [], codes, map};
 ghost use Rattle.gc_expr.specs.Views.{expr_tree, sum_part_tree, product_part_tree};
 ghost use Rattle.gc_lex.specs.declared.token.Mark.TheVariants as mark;
-ghost use Rattle.gc_grammar.specs.Kinds.{begins, mark_kind, word_kind};
-ghost use Rattle.gc_grammar.specs.Readers.{in_front, read_many, read_behind, read_the_word};
+ghost use Rattle.gc_parse_readers.specs.Kinds.{begins, mark_kind, word_kind};
+ghost use Rattle.gc_parse_readers.specs.Readers.{in_front, read_many, read_behind, read_the_word};
 ghost use Rattle.gc_parse_readers.specs.ExpressionReaders.{product_kinds, read_and, read_cmp, read_expr, read_not, read_prod, read_product_part, read_sum, read_sum_part};
 ghost use Rattle.gc_parse_readers.specs.QueryReaders.{nested};
 ghost use Rattle.gc_parse_expressions.specs.Inner.{ReadsQueries};

@@ -3,7 +3,7 @@ ghost use Rattle.gc_ast.specs.Trees.{Tree, AQuery};
 ghost use Rattle.gc_expr.specs.Trees as tree;
 ghost use Rattle.gc_expr.specs.Trees.{At};
 ghost use Rattle.gc_expr.specs.Views.{expr_tree};
-ghost use Rattle.gc_grammar.specs.Readers.{read_made, read_number, read_text, read_name, read_the_word};
+ghost use Rattle.gc_parse_readers.specs.Readers.{read_made, read_number, read_text, read_name, read_the_word};
 ghost use Rattle.gc_parse_readers.specs.ExpressionReaders.{read_length, read_rows};
 ghost use Rattle.gc_parse_source.specs.Results.{GivesWith};
 ghost use Rattle.gc_parse_readers.specs.Points.{point};

@@ -1,7 +1,7 @@
 ghost use Rattle.std.specs.Prelude.{◌≡◌, ◌∷◌, [], drop, List};
 ghost use Rattle.gc_ast.specs.Trees.{Tree, AQuery};
 ghost use Rattle.gc_lex.specs.declared.token.Mark.TheVariants as mark;
-ghost use Rattle.gc_grammar.specs.Kinds.{begins, mark_kind};
+ghost use Rattle.gc_parse_readers.specs.Kinds.{begins, mark_kind};
 ghost use Rattle.gc_parse_readers.specs.ExpressionReaders.{comparison_kinds, product_kinds, read_sign, read_product_op, read_comparison, read_folding};
 ghost use Rattle.gc_parse_source.specs.Results.{GivesWith};
 ghost use Rattle.gc_parse_readers.specs.Points.{point};

@@ -1,7 +1,7 @@
 ghost use Rattle.std.specs.Prelude.{◌-◌, ◌<◌, codes, drop};
 ghost use Rattle.gc_expr.specs.Trees as tree;
 ghost use Rattle.gc_expr.specs.Views.{expr_tree};
-ghost use Rattle.gc_grammar.specs.Readers.{read_before, read_behind, read_mark};
+ghost use Rattle.gc_parse_readers.specs.Readers.{read_before, read_behind, read_mark};
 ghost use Rattle.gc_lex.specs.declared.token.Mark.TheVariants as mark;
 ghost use Rattle.gc_parse_readers.specs.ExpressionReaders.{read_aggregate, read_call, read_exists, read_in_parentheses, read_indexed, read_literal, read_neg, read_post, read_prim, read_suffix};
 ghost use Rattle.gc_ast.specs.QueryViews.{query_tree};

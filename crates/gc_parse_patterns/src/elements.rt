@@ -1,9 +1,9 @@
 ghost use Rattle.std.specs.Prelude.{◌≡◌, ◌∷◌, [], drop, map};
 ghost use Rattle.gc_lex.specs.declared.token.Mark.TheVariants as mark;
 ghost use Rattle.gc_ast.specs.PatternViews.{pattern_tree};
-ghost use Rattle.gc_grammar.specs.Kinds.{mark_kind};
+ghost use Rattle.gc_parse_readers.specs.Kinds.{mark_kind};
 ghost use Rattle.gc_grammar.specs.Patterns.{placed};
-ghost use Rattle.gc_grammar.specs.Readers.{in_front, read_many, read_behind, read_mark};
+ghost use Rattle.gc_parse_readers.specs.Readers.{in_front, read_many, read_behind, read_mark};
 ghost use Rattle.gc_parse_readers.specs.PatternReaders.{read_property_use, read_property_uses, read_element, read_node};
 ghost use Rattle.gc_expr.specs.Views.{Names};
 ghost use Rattle.gc_parse_patterns.specs.PatternViews.{property_use_tree, plain_element_view, element_tree};

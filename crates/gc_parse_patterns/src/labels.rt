@@ -1,7 +1,7 @@
 ghost use Rattle.std.specs.Prelude.{◌∷◌, [], drop, map};
 ghost use Rattle.gc_lex.specs.declared.token.Mark.TheVariants as mark;
-ghost use Rattle.gc_grammar.specs.Kinds.{mark_kind};
-ghost use Rattle.gc_grammar.specs.Readers.{in_front, read_many, read_behind, read_mark, read_word};
+ghost use Rattle.gc_parse_readers.specs.Kinds.{mark_kind};
+ghost use Rattle.gc_parse_readers.specs.Readers.{in_front, read_many, read_behind, read_mark, read_word};
 ghost use Rattle.gc_parse_readers.specs.PatternReaders.{read_labels, read_label_groups};
 ghost use Rattle.gc_parse_source.specs.Results.{Gives};
 ghost use Rattle.gc_parse_readers.specs.Points.{bare};

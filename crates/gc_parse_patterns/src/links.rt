@@ -1,6 +1,6 @@
 ghost use Rattle.std.specs.Prelude.{◌∷◌, [], drop, map};
 ghost use Rattle.gc_ast.specs.PatternViews.{located_tree, named_if, pattern_tree};
-ghost use Rattle.gc_grammar.specs.Readers.{read_both, read_many};
+ghost use Rattle.gc_parse_readers.specs.Readers.{read_both, read_many};
 ghost use Rattle.gc_parse_source.specs.Turns.{in_front_in_turn};
 ghost use Rattle.gc_parse_patterns.specs.PatternViews.{pair_tree};
 ghost use Rattle.gc_parse_readers.specs.PatternReaders.{link_kinds, read_chain, read_edge, read_link, read_located, read_node, read_on_if, read_vchain};

@@ -1,8 +1,8 @@
 ghost use Rattle.std.specs.Prelude.{◌∷◌, [], drop, map};
 ghost use Rattle.gc_lex.specs.declared.token.Mark.TheVariants as mark;
 ghost use Rattle.gc_ast.specs.PatternViews.{located_tree, pattern_tree};
-ghost use Rattle.gc_grammar.specs.Kinds.{mark_kind};
-ghost use Rattle.gc_grammar.specs.Readers.{in_front, read_many, read_behind, read_separated, read_mark};
+ghost use Rattle.gc_parse_readers.specs.Kinds.{mark_kind};
+ghost use Rattle.gc_parse_readers.specs.Readers.{in_front, read_many, read_behind, read_separated, read_mark};
 ghost use Rattle.gc_parse_readers.specs.PatternReaders.{read_located, read_vchain};
 ghost use Rattle.gc_parse_readers.specs.Points.{bare};
 ghost use Rattle.gc_parse_source.specs.Results.{Gives};

@@ -1,7 +1,7 @@
 ghost use Rattle.std.specs.Prelude.{◌≡◌, ◌∷◌, [], drop};
 ghost use Rattle.gc_ast.specs.PatternViews.{named_if, pattern_tree};
-ghost use Rattle.gc_grammar.specs.Kinds.{begins, name_kind, number_kind};
-ghost use Rattle.gc_grammar.specs.Readers.{read_optional};
+ghost use Rattle.gc_parse_readers.specs.Kinds.{begins, name_kind, number_kind};
+ghost use Rattle.gc_parse_readers.specs.Readers.{read_optional};
 ghost use Rattle.gc_parse_readers.specs.PatternReaders.{read_angled, read_count, read_reach, read_cost_if, read_found, read_all, read_stored, read_pathbody, read_path};
 ghost use Rattle.gc_parse_patterns.specs.PatternViews.{angled_view, body_view};
 ghost use Rattle.gc_parse_source.specs.Results.{Gives};

@@ -1,7 +1,7 @@
 ghost use Rattle.std.specs.Prelude.{◌≡◌, ◌-◌, ◌<◌, ◌∷◌, [], drop};
 ghost use Rattle.gc_lex.specs.declared.token.Mark.TheVariants as mark;
-ghost use Rattle.gc_grammar.specs.Kinds.{begins, mark_kind};
-ghost use Rattle.gc_grammar.specs.Readers.{in_front, read_many, read_behind, read_mark};
+ghost use Rattle.gc_parse_readers.specs.Kinds.{begins, mark_kind};
+ghost use Rattle.gc_parse_readers.specs.Readers.{in_front, read_many, read_behind, read_mark};
 ghost use Rattle.gc_parse_readers.specs.RegexReaders.{part_kinds, read_group, read_atom, read_star, read_cat, read_alt, read_regex};
 ghost use Rattle.gc_parse_patterns.specs.RegexViews.{part_view, parts_view};
 ghost use Rattle.gc_parse_source.specs.Results.{Gives};

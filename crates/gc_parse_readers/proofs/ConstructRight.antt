@@ -4,19 +4,19 @@ use Rattle.gc_lex.specs.declared.token.Mark.TheVariants as mark
 use Rattle.gc_ast.specs.Trees as tree
 use Rattle.gc_ast.specs.Trees.{Tree, AChange, AnAssign}
 use Rattle.gc_grammar.specs.Words.{Lang, ◌⋅◌, ◌⇒◌, ◌▸◌, ◌∣◌, optional, many, mark, the_word, word, name}
-use Rattle.gc_grammar.specs.Kinds.{mark_kind, word_kind, name_kind, any_word_kinds}
-use Rattle.gc_grammar.specs.Readers.{Reader, read_both, read_behind, read_mark, read_name}
+use Rattle.gc_parse_readers.specs.Kinds.{mark_kind, word_kind, name_kind, any_word_kinds}
+use Rattle.gc_parse_readers.specs.Readers.{Reader, read_both, read_behind, read_mark, read_name}
 use Rattle.gc_grammar.specs.Expressions.{Inside}
 use Rattle.gc_grammar.specs.Constructs.{gterm, assign, assigns, group, label, celement, cnode, new_edge, in_slashes, projected, new_stored, clink, cchain, sub, chain_item, item}
-use Rattle.gc_grammar.specs.Right.{Right, Outline, one_of, optional_of}
-use Rattle.gc_grammar.proofs.RightTokens.{right_mark, right_the_word, right_word}
-use Rattle.gc_grammar.proofs.RightBoth.{right_name, right_both, right_made, right_behind, right_before}
-use Rattle.gc_grammar.proofs.RightChoices.{right_either, right_optional}
-use Rattle.gc_grammar.proofs.RightMany.{right_many, right_separated}
-use Rattle.gc_grammar.proofs.RightFork.{Way, right_fork, right_fork_second}
-use Rattle.gc_grammar.proofs.Taken.{taken_mark, taken_the_word, taken_name}
-use Rattle.gc_grammar.proofs.Ways.{way_last, way_not_last, way_made, way_before, way_token_behind, way_two_tokens}
-use Rattle.gc_grammar.proofs.WayChoices.{way_either, way_fork}
+use Rattle.gc_parse_readers.specs.Right.{Right, Outline, one_of, optional_of}
+use Rattle.gc_parse_readers.proofs.RightTokens.{right_mark, right_the_word, right_word}
+use Rattle.gc_parse_readers.proofs.RightBoth.{right_name, right_both, right_made, right_behind, right_before}
+use Rattle.gc_parse_readers.proofs.RightChoices.{right_either, right_optional}
+use Rattle.gc_parse_readers.proofs.RightMany.{right_many, right_separated}
+use Rattle.gc_parse_readers.proofs.RightFork.{Way, right_fork, right_fork_second}
+use Rattle.gc_parse_readers.proofs.Taken.{taken_mark, taken_the_word, taken_name}
+use Rattle.gc_parse_readers.proofs.Ways.{way_last, way_not_last, way_made, way_before, way_token_behind, way_two_tokens}
+use Rattle.gc_parse_readers.proofs.WayChoices.{way_either, way_fork}
 use Rattle.gc_parse_readers.specs.ExpressionReaders.{Nested}
 use Rattle.gc_parse_readers.specs.PatternReaders.{read_in_slashes}
 use Rattle.gc_parse_readers.specs.ConstructReaders.{read_group_term, read_assign, read_assigns, read_assigns_if, read_group, read_new_label, read_new_labels, read_celement, read_cnode, read_new_edge, read_projected, read_new_stored, projected_kinds, read_new_path, read_clink, read_cchain, read_set_property, read_add_label, read_drop_property, read_drop_label, read_removal, read_sub, read_chain_item, read_item}

@@ -5,18 +5,18 @@ use Rattle.gc_expr.specs.declared.expr.Fold.TheVariants as fold
 use Rattle.gc_expr.specs.Trees as tree
 use Rattle.gc_expr.specs.Trees.{ExprTree, ANode, maybe, At}
 use Rattle.gc_grammar.specs.Words.{Lang, ◌⋅◌, ◌⇒◌, ◌▸◌, mark, the_word, name, numbered}
-use Rattle.gc_grammar.specs.Kinds.{mark_kind, word_kind, number_kind, text_kind, name_kind, apart}
-use Rattle.gc_grammar.specs.Readers.{Reader}
+use Rattle.gc_parse_readers.specs.Kinds.{mark_kind, word_kind, number_kind, text_kind, name_kind, apart}
+use Rattle.gc_parse_readers.specs.Readers.{Reader}
 use Rattle.gc_grammar.specs.Expressions.{Expr, Inside, in_parentheses, indexed, folding, prim, suffix, post, neg, product_op, product_part, prod, sign, sum_part, sum, comparison, cmp, not, and, expr, formula}
-use Rattle.gc_grammar.specs.Right.{Right, Outline, one_of, both_of}
-use Rattle.gc_grammar.proofs.RightTokens.{right_mark, right_the_word, right_word, right_number, right_text}
-use Rattle.gc_grammar.proofs.RightBoth.{right_name, right_both, right_made, right_behind, right_before, right_as}
-use Rattle.gc_grammar.proofs.RightChoices.{right_either, right_optional}
-use Rattle.gc_grammar.proofs.RightMany.{right_many, right_separated}
-use Rattle.gc_grammar.proofs.RightBrackets.{right_opening, right_alone, right_numbered}
-use Rattle.gc_grammar.proofs.RightFork.{Way, right_fork}
-use Rattle.gc_grammar.proofs.Taken.{Taken, taken_mark, taken_the_word, taken_as, taken_any, taken_either}
-use Rattle.gc_grammar.proofs.Ways.{way_last, way_not_last, way_made, way_before, way_token_behind, way_opening, way_any_token}
+use Rattle.gc_parse_readers.specs.Right.{Right, Outline, one_of, both_of}
+use Rattle.gc_parse_readers.proofs.RightTokens.{right_mark, right_the_word, right_word, right_number, right_text}
+use Rattle.gc_parse_readers.proofs.RightBoth.{right_name, right_both, right_made, right_behind, right_before, right_as}
+use Rattle.gc_parse_readers.proofs.RightChoices.{right_either, right_optional}
+use Rattle.gc_parse_readers.proofs.RightMany.{right_many, right_separated}
+use Rattle.gc_parse_readers.proofs.RightBrackets.{right_opening, right_alone, right_numbered}
+use Rattle.gc_parse_readers.proofs.RightFork.{Way, right_fork}
+use Rattle.gc_parse_readers.proofs.Taken.{Taken, taken_mark, taken_the_word, taken_as, taken_any, taken_either}
+use Rattle.gc_parse_readers.proofs.Ways.{way_last, way_not_last, way_made, way_before, way_token_behind, way_opening, way_any_token}
 use Rattle.gc_parse_readers.specs.ExpressionReaders.{Nested, read_in_parentheses, read_indexed, read_folding, read_rows, read_aggregate, read_exists, read_length, read_literal, read_prim, read_suffix, read_post, read_neg, read_product_op, product_kinds, read_product_part, read_prod, read_sign, read_sum_part, read_sum, read_comparison, comparison_kinds, read_cmp, read_not, read_and, read_expr, read_formula}
 use Rattle.gc_parse_readers.proofs.Outlines.{right_outlined, expr_outline, prim_outline, neg_outline, post_more, prod_more, sum_more, cmp_more, not_outline, and_more, InsideRight, folding_kinds}
 

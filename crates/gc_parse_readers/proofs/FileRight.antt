@@ -4,10 +4,10 @@ use Rattle.std.proofs.Common.{◌≡◌, refl, sym, ap, ◌∙◌, subst, ℕ, z
 use Rattle.gc_lex.specs.declared.token.Token.{Token}
 use Rattle.gc_ast.specs.Trees.{Tree, AStatement}
 use Rattle.gc_grammar.specs.Words.{Point}
-use Rattle.gc_grammar.specs.Readers.{Reader, Got, Stuck}
-use Rattle.gc_grammar.specs.Right.{Refused}
+use Rattle.gc_parse_readers.specs.Readers.{Reader, Got, Stuck}
+use Rattle.gc_parse_readers.specs.Right.{Refused}
 use Rattle.gc_grammar.specs.Queries.{statement, file, within, start, SpellsFile}
-use Rattle.gc_grammar.proofs.RightBoth.{leaves_room}
+use Rattle.gc_parse_readers.proofs.RightBoth.{leaves_room}
 use Rattle.gc_parse_readers.specs.QueryReaders.{nested, read_file}
 use Rattle.gc_parse_readers.proofs.Outlines.{statement_outline}
 use Rattle.gc_parse_readers.proofs.QueryRight.{right_statement}

@@ -1,7 +1,7 @@
 -- What stands first in a list, token by token.
 use Rattle.std.proofs.Common.{◌≡◌, refl, ap, sym, ◌∙◌, ℕ, zero, suc, ◌+◌, Bool, true, false, ◌&&◌, List, [], ◌∷◌, drop}
 use Rattle.gc_lex.specs.declared.token.Token.{Token}
-use Rattle.gc_grammar.specs.Kinds.{begins, begins_so, among, kind}
+use Rattle.gc_parse_readers.specs.Kinds.{begins, begins_so, among, kind}
 use native.Mathlib.Omega.{arith}
 
 -- where the first token of a list is of the first kinds, what is behind it decides

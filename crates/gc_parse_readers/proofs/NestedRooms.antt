@@ -1,6 +1,6 @@
 -- What brackets may hold, where there is room.
 use Rattle.std.proofs.Common.{◌≡◌, refl, ap, ℕ, zero, suc, ◌<◌, ◌-◌}
-use Rattle.gc_grammar.specs.Readers.{stuck}
+use Rattle.gc_parse_readers.specs.Readers.{stuck}
 use Rattle.gc_parse_readers.specs.ExpressionReaders.{read_expr}
 use Rattle.gc_parse_readers.specs.QueryReaders.{nested, read_query}
 use Rattle.gc_parse_readers.specs.RegexReaders.{read_regex, read_alt}

@@ -3,11 +3,11 @@ use Rattle.std.proofs.Common.{◌≡◌, ◌∙◌, ℕ, true, false, List, [], 
 use Rattle.gc_lex.specs.declared.token.Mark.TheVariants as mark
 use Rattle.gc_lex.specs.declared.token.Token.{Token}
 use Rattle.gc_grammar.specs.Words.{Lang}
-use Rattle.gc_grammar.specs.Kinds.{mark_kind, word_kind, number_kind, text_kind, name_kind, kind, covers}
-use Rattle.gc_grammar.specs.Readers.{Reader}
+use Rattle.gc_parse_readers.specs.Kinds.{mark_kind, word_kind, number_kind, text_kind, name_kind, kind, covers}
+use Rattle.gc_parse_readers.specs.Readers.{Reader}
 use Rattle.gc_grammar.specs.Expressions.{Inside}
-use Rattle.gc_grammar.specs.Right.{Right, Outline, Opens, one_of}
-use Rattle.gc_grammar.proofs.KindLaws.{covered, not_covered}
+use Rattle.gc_parse_readers.specs.Right.{Right, Outline, Opens, one_of}
+use Rattle.gc_parse_readers.proofs.KindLaws.{covered, not_covered}
 use Rattle.gc_parse_readers.specs.ExpressionReaders.{Nested, product_kinds, comparison_kinds}
 use Rattle.gc_parse_readers.specs.PatternReaders.{link_kinds}
 use Rattle.gc_parse_readers.specs.QueryReaders.{set_op_kinds}

@@ -5,21 +5,21 @@ use Rattle.gc_base.specs.declared.place.Direction.TheVariants.{Backward}
 use Rattle.gc_lex.specs.declared.token.Token.{Token}
 use Rattle.gc_lex.specs.declared.token.Mark.TheVariants as mark
 use Rattle.gc_grammar.specs.Words.{Point, Lang, ◌⋅◌, ◌⇒◌, ◌▸◌, ◌◂◌, ◌∣◌, optional, many, mark, the_word, name}
-use Rattle.gc_grammar.specs.Kinds.{mark_kind, word_kind, number_kind, name_kind, any_word_kinds, apart}
-use Rattle.gc_grammar.specs.Readers.{Reader, Reading, Got, Stuck}
+use Rattle.gc_parse_readers.specs.Kinds.{mark_kind, word_kind, number_kind, name_kind, any_word_kinds, apart}
+use Rattle.gc_parse_readers.specs.Readers.{Reader, Reading, Got, Stuck}
 use Rattle.gc_grammar.specs.Regexes.{Expression, regex, regex_within}
 use Rattle.gc_grammar.specs.Patterns.{labels, property_use, property_uses, element, node, edge_of, edge, arrow, angled, count, reach, found, all, stored, pathbody, path, linked, vchain, chain, located}
 use Rattle.gc_grammar.specs.Constructs.{in_slashes}
-use Rattle.gc_grammar.specs.Right.{Sound, Right, Outline, one_of, both_of, optional_of}
-use Rattle.gc_grammar.proofs.KindLaws.{apart_none}
-use Rattle.gc_grammar.proofs.RightTokens.{right_mark, right_the_word, right_word, right_number}
-use Rattle.gc_grammar.proofs.RightBoth.{right_name, right_both, right_made, right_behind, right_before}
-use Rattle.gc_grammar.proofs.RightChoices.{right_either, right_optional}
-use Rattle.gc_grammar.proofs.RightMany.{right_many, right_separated}
-use Rattle.gc_grammar.proofs.RightFork.{Way, right_fork_second}
-use Rattle.gc_grammar.proofs.Taken.{taken_mark}
-use Rattle.gc_grammar.proofs.Ways.{way_last, way_not_last, way_made, way_both, way_before, way_token_behind}
-use Rattle.gc_grammar.proofs.WayChoices.{way_either}
+use Rattle.gc_parse_readers.specs.Right.{Sound, Right, Outline, one_of, both_of, optional_of}
+use Rattle.gc_parse_readers.proofs.KindLaws.{apart_none}
+use Rattle.gc_parse_readers.proofs.RightTokens.{right_mark, right_the_word, right_word, right_number}
+use Rattle.gc_parse_readers.proofs.RightBoth.{right_name, right_both, right_made, right_behind, right_before}
+use Rattle.gc_parse_readers.proofs.RightChoices.{right_either, right_optional}
+use Rattle.gc_parse_readers.proofs.RightMany.{right_many, right_separated}
+use Rattle.gc_parse_readers.proofs.RightFork.{Way, right_fork_second}
+use Rattle.gc_parse_readers.proofs.Taken.{taken_mark}
+use Rattle.gc_parse_readers.proofs.Ways.{way_last, way_not_last, way_made, way_both, way_before, way_token_behind}
+use Rattle.gc_parse_readers.proofs.WayChoices.{way_either}
 use Rattle.gc_parse_readers.specs.RegexReaders.{read_regex}
 use Rattle.gc_parse_readers.specs.PatternReaders.{read_labels, read_label_groups, read_property_use, read_property_uses, read_name_if, read_element, read_node, read_edge_on, read_edge_back, read_edge_of, read_edge, read_angled, read_count, read_reach, read_cost_if, read_found, read_all, read_stored, read_pathbody, read_in_slashes, read_path, link_kinds, read_link, read_linked, read_vchain, read_chain, read_on_if, read_located}
 use Rattle.gc_parse_readers.proofs.RegexRight.{regex_outline, right_regex}

@@ -5,20 +5,20 @@ use Rattle.gc_lex.specs.declared.token.Mark.TheVariants as mark
 use Rattle.gc_ast.specs.Trees as tree
 use Rattle.gc_ast.specs.Trees.{Tree, AQuery, AHead, AStatement}
 use Rattle.gc_grammar.specs.Words.{Lang, ◌⋅◌, ◌⇒◌, ◌▸◌, optional, many, the_word}
-use Rattle.gc_grammar.specs.Kinds.{mark_kind, word_kind, name_kind, covers}
-use Rattle.gc_grammar.specs.Readers.{Reader, read_both, read_made, read_behind, read_many, read_the_word}
+use Rattle.gc_parse_readers.specs.Kinds.{mark_kind, word_kind, name_kind, covers}
+use Rattle.gc_parse_readers.specs.Readers.{Reader, read_both, read_made, read_behind, read_many, read_the_word}
 use Rattle.gc_grammar.specs.Expressions.{Expr, Inside, formula}
 use Rattle.gc_grammar.specs.Queries.{where_, block, optional_block, basic, term, named_query, path_head, head, set_op, next_term, query, statement, within}
-use Rattle.gc_grammar.specs.Right.{Right, Outline, one_of}
-use Rattle.gc_grammar.proofs.RightTokens.{right_mark, right_the_word}
-use Rattle.gc_grammar.proofs.RightBoth.{right_name, right_both, right_made, right_behind, right_as}
-use Rattle.gc_grammar.proofs.RightChoices.{right_either, right_optional}
-use Rattle.gc_grammar.proofs.RightMany.{right_many, right_separated}
-use Rattle.gc_grammar.proofs.RightBrackets.{Never, StepsRight, right_nested}
-use Rattle.gc_grammar.proofs.RightFork.{Way, right_fork}
-use Rattle.gc_grammar.proofs.Taken.{taken_the_word}
-use Rattle.gc_grammar.proofs.Ways.{way_last, way_not_last, way_made, way_token_behind}
-use Rattle.gc_grammar.proofs.WayChoices.{way_either_second, way_many}
+use Rattle.gc_parse_readers.specs.Right.{Right, Outline, one_of}
+use Rattle.gc_parse_readers.proofs.RightTokens.{right_mark, right_the_word}
+use Rattle.gc_parse_readers.proofs.RightBoth.{right_name, right_both, right_made, right_behind, right_as}
+use Rattle.gc_parse_readers.proofs.RightChoices.{right_either, right_optional}
+use Rattle.gc_parse_readers.proofs.RightMany.{right_many, right_separated}
+use Rattle.gc_parse_readers.proofs.RightBrackets.{Never, StepsRight, right_nested}
+use Rattle.gc_parse_readers.proofs.RightFork.{Way, right_fork}
+use Rattle.gc_parse_readers.proofs.Taken.{taken_the_word}
+use Rattle.gc_parse_readers.proofs.Ways.{way_last, way_not_last, way_made, way_token_behind}
+use Rattle.gc_parse_readers.proofs.WayChoices.{way_either_second, way_many}
 use Rattle.gc_parse_readers.specs.ExpressionReaders.{Nested}
 use Rattle.gc_parse_readers.specs.QueryReaders.{read_condition_if, read_where, read_block, read_optional_block, read_basic, read_term, read_named_query, read_path_head, read_head, read_set_op, set_op_kinds, read_next_term, read_query, nested, read_view_statement, read_statement}
 use Rattle.gc_parse_readers.proofs.Outlines.{right_outlined, expr_more, expr_outline, block_more, block_outline, term_more, term_kinds, term_outline, head_kinds, head_more, query_outline, statement_outline, InsideRight}

@@ -2,15 +2,15 @@
 use Rattle.std.proofs.Common.{refl, ℕ, suc, false, [], ◌∷◌}
 use Rattle.gc_lex.specs.declared.token.Mark.TheVariants as mark
 use Rattle.gc_grammar.specs.Words.{Lang}
-use Rattle.gc_grammar.specs.Kinds.{mark_kind}
-use Rattle.gc_grammar.specs.Readers.{Reader}
+use Rattle.gc_parse_readers.specs.Kinds.{mark_kind}
+use Rattle.gc_parse_readers.specs.Readers.{Reader}
 use Rattle.gc_grammar.specs.Regexes.{Expression, label, any, test, view, group, atom, star, cat, alt, regex_within}
-use Rattle.gc_grammar.specs.Right.{Right, Outline, one_of, both_of, optional_of, several_of, separated_of}
-use Rattle.gc_grammar.proofs.RightTokens.{right_mark, right_word}
-use Rattle.gc_grammar.proofs.RightBoth.{right_name, right_both, right_made, right_behind, right_before}
-use Rattle.gc_grammar.proofs.RightChoices.{right_either, right_optional}
-use Rattle.gc_grammar.proofs.RightMany.{right_several, right_separated}
-use Rattle.gc_grammar.proofs.RightBrackets.{right_opening, right_nested}
+use Rattle.gc_parse_readers.specs.Right.{Right, Outline, one_of, both_of, optional_of, several_of, separated_of}
+use Rattle.gc_parse_readers.proofs.RightTokens.{right_mark, right_word}
+use Rattle.gc_parse_readers.proofs.RightBoth.{right_name, right_both, right_made, right_behind, right_before}
+use Rattle.gc_parse_readers.proofs.RightChoices.{right_either, right_optional}
+use Rattle.gc_parse_readers.proofs.RightMany.{right_several, right_separated}
+use Rattle.gc_parse_readers.proofs.RightBrackets.{right_opening, right_nested}
 use Rattle.gc_parse_readers.specs.RegexReaders.{part_kinds, read_label, read_any, read_test, read_view, read_group, read_atom, read_star, read_cat, read_alt, read_regex}
 
 -- how a label begins, and with what it would go on

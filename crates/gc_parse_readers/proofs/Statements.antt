@@ -4,13 +4,13 @@ use Rattle.std.proofs.lemmas.List.{append-nil}
 use Rattle.gc_lex.specs.declared.token.Token.{Token}
 use Rattle.gc_lex.specs.declared.token.Mark.TheVariants as mark
 use Rattle.gc_grammar.specs.Words.{Point, Lang, ◌⋅◌, ◌⇒◌, ◌▸◌, ◌◂◌, optional, many, separated, mark}
-use Rattle.gc_grammar.specs.Kinds.{mark_kind, begins, apart}
+use Rattle.gc_parse_readers.specs.Kinds.{mark_kind, begins, apart}
 use Rattle.gc_grammar.specs.Patterns.{listed}
-use Rattle.gc_grammar.specs.Readers.{Reader}
-use Rattle.gc_grammar.specs.Right.{Right, Outline, one_of}
-use Rattle.gc_grammar.proofs.KindLaws.{opens_apart}
-use Rattle.gc_grammar.proofs.RightTokens.{right_mark}
-use Rattle.gc_grammar.proofs.RightBoth.{leaves_room, leaves_one_less}
+use Rattle.gc_parse_readers.specs.Readers.{Reader}
+use Rattle.gc_parse_readers.specs.Right.{Right, Outline, one_of}
+use Rattle.gc_parse_readers.proofs.KindLaws.{opens_apart}
+use Rattle.gc_parse_readers.proofs.RightTokens.{right_mark}
+use Rattle.gc_parse_readers.proofs.RightBoth.{leaves_room, leaves_one_less}
 use Rattle.gc_parse_readers.specs.QueryReaders.{read_later}
 use Rattle.gc_parse_readers.proofs.WholeLists.{WholeRight, used_right, used_both, whole_made, whole_both, whole_behind, ended, whole_ended, whole_unread, whole_same, right_smaller}
 use native.Mathlib.Omega.{arith}

@@ -9,8 +9,8 @@ use Rattle.gc_lex.specs.declared.token.Token.{Token}
 use Rattle.gc_lex.specs.declared.token.Token.TheVariants.{Word, Number, Text, Symbol}
 use Rattle.gc_lex.specs.declared.token.Mark.{Mark}
 use Rattle.gc_lex.specs.declared.token.Mark.TheVariants as mark
-use Rattle.gc_grammar.specs.Kinds.{mark_kind, number_kind, text_kind, name_kind, word_kind, kind, among, begins}
-use Rattle.gc_grammar.specs.Readers.{means_mark, means_the_word, means_word, means_name, first_means, behind}
+use Rattle.gc_parse_readers.specs.Kinds.{mark_kind, number_kind, text_kind, name_kind, word_kind, kind, among, begins}
+use Rattle.gc_parse_readers.specs.Readers.{means_mark, means_the_word, means_word, means_name, first_means, behind}
 use native.Mathlib.Omega.{arith}
 
 -- the kinds of symbols come first
@@ -44,7 +44,7 @@ mark_below mark.AtSign = omega arith
 mark_below mark.LowLine = omega arith
 
 -- those of words last
-word_above : (word : List ℕ) → 29 ≤ word_kind word
+pub word_above : (word : List ℕ) → 29 ≤ word_kind word
 word_above word = above (is_reserved word)
   where
     above : (b : Bool) → 29 ≤ (if b then 30 + position_or_len (pointwise nat_eq word) reserved_words else name_kind)
@@ -81,8 +81,9 @@ word_no_mark m w = one_kind (word_kind w) (mark_kind m) ∙ unequal (word_kind w
 pub reserved_kind : (w : List ℕ) → is_reserved w ≡ true → word_kind w ≡ 30 + position_or_len (pointwise nat_eq w) reserved_words
 reserved_kind w r = ap (λ b. if b then 30 + position_or_len (pointwise nat_eq w) reserved_words else name_kind) r
 
-name_has_kind : (w : List ℕ) → is_reserved w ≡ false → word_kind w ≡ name_kind
-name_has_kind w r = ap (λ b. if b then 30 + position_or_len (pointwise nat_eq w) reserved_words else name_kind) r
+-- and a word that is not reserved that of names
+pub not_reserved : (w : List ℕ) → is_reserved w ≡ false → word_kind w ≡ name_kind
+not_reserved w r = ap (λ b. if b then 30 + position_or_len (pointwise nat_eq w) reserved_words else name_kind) r
 
 -- no symbol, number or text is a reserved word
 pub mark_no_word : (w : List ℕ) (m : Mark) → is_reserved w ≡ true → among (word_kind w ∷ []) (mark_kind m) ≡ false
@@ -120,7 +121,7 @@ same_kind v w r same = here (is_reserved v) refl
         let p : position_or_len (pointwise nat_eq v) reserved_words ≡ position_or_len (pointwise nat_eq w) reserved_words =
         omega (arith, sym (reserved_kind v is) ∙ k ∙ reserved_kind w r) in
         same_Some v w (sym (stands_at v reserved_words is) ∙ ap (slice_get reserved_words) p ∙ stands_at w reserved_words r)
-    here false is = absurd (omega (arith, sym (name_has_kind v is) ∙ k ∙ reserved_kind w r))
+    here false is = absurd (omega (arith, sym (not_reserved v is) ∙ k ∙ reserved_kind w r))
 
 -- a word is that reserved word where it has its kind
 pub word_by_kind : (v w : List ℕ) → is_reserved w ≡ true → pointwise nat_eq v w ≡ among (word_kind w ∷ []) (word_kind v)

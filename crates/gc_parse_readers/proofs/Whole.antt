@@ -4,8 +4,8 @@ use Rattle.std.proofs.lemmas.Option.{none-some}
 use Rattle.std.proofs.lemmas.List.{append-nil}
 use Rattle.gc_lex.specs.declared.token.Token.{Token}
 use Rattle.gc_grammar.specs.Words.{Point, Lang, at_some_depth}
-use Rattle.gc_grammar.specs.Readers.{Reader, Got, Stuck}
-use Rattle.gc_grammar.specs.Right.{Right, Outline, Sound, Alike, front}
+use Rattle.gc_parse_readers.specs.Readers.{Reader, Got, Stuck}
+use Rattle.gc_parse_readers.specs.Right.{Right, Outline, Sound, Alike, front}
 use Rattle.gc_grammar.specs.Queries.{start}
 use native.Mathlib.Omega.{arith}
 

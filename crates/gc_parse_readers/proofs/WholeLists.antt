@@ -4,12 +4,12 @@ use Rattle.std.proofs.Common.{◌≡◌, refl, sym, ap, ◌∙◌, subst, ℕ, �
 use Rattle.std.proofs.lemmas.Option.{none-some}
 use Rattle.gc_lex.specs.declared.token.Token.{Token}
 use Rattle.gc_grammar.specs.Words.{Point, Lang, ◌⋅◌, ◌⇒◌, ◌▸◌, optional}
-use Rattle.gc_grammar.specs.Kinds.{begins}
+use Rattle.gc_parse_readers.specs.Kinds.{begins}
 use Rattle.gc_grammar.specs.Patterns.{listed}
-use Rattle.gc_grammar.specs.Readers.{Reader, Reading, Got, Stuck, then_read, read_both, read_made, read_behind}
-use Rattle.gc_grammar.specs.Right.{front, Alike, Found, Refused, Sound, Right, Outline, Opens}
-use Rattle.gc_grammar.proofs.KindLaws.{neither, alike_behind}
-use Rattle.gc_grammar.proofs.RightBoth.{Leaves}
+use Rattle.gc_parse_readers.specs.Readers.{Reader, Reading, Got, Stuck, then_read, read_both, read_made, read_behind}
+use Rattle.gc_parse_readers.specs.Right.{front, Alike, Found, Refused, Sound, Right, Outline, Opens}
+use Rattle.gc_parse_readers.proofs.KindLaws.{neither, alike_behind}
+use Rattle.gc_parse_readers.proofs.RightBoth.{Leaves}
 use Rattle.gc_parse_readers.specs.QueryReaders.{read_unless_end}
 
 -- a reading of a whole list says what it should

@@ -4,7 +4,7 @@ use Rattle.std.proofs.Math.ListN.{drop_of_length-le}
 use Rattle.gc_lex.specs.declared.token.Token.{Token}
 use Rattle.gc_regx.specs.Trees.{RegexTree, ARegex}
 use Rattle.gc_grammar.specs.Words.{Point}
-use Rattle.gc_grammar.specs.Readers.{Got, Stuck}
+use Rattle.gc_parse_readers.specs.Readers.{Got, Stuck}
 use Rattle.gc_grammar.specs.Regexes.{Expression, regex_within}
 use Rattle.gc_grammar.specs.Queries.{SpellsRegex, start}
 use Rattle.gc_parse_readers.specs.RegexReaders.{read_regex}

@@ -3,8 +3,8 @@ use Rattle.std.specs.Prelude.{ℕ, List, [], ◌∷◌, codes, Option}
 use Rattle.gc_lex.specs.declared.token.Mark.TheVariants as mark
 use Rattle.gc_ast.specs.Trees as tree
 use Rattle.gc_ast.specs.Trees.{Tree, AnItem, AConstructPart, AGroupTerm, AnAssign, AChange, row, maybe}
-use Rattle.gc_grammar.specs.Kinds.{mark_kind, word_kind, name_kind}
-use Rattle.gc_grammar.specs.Readers.{Reader, read_both, read_made, read_behind, read_before, read_either, read_fork, read_optional, read_many, read_separated, read_mark, read_the_word, read_word, read_name}
+use Rattle.gc_parse_readers.specs.Kinds.{mark_kind, word_kind, name_kind}
+use Rattle.gc_parse_readers.specs.Readers.{Reader, read_both, read_made, read_behind, read_before, read_either, read_fork, read_optional, read_many, read_separated, read_mark, read_the_word, read_word, read_name}
 use Rattle.gc_grammar.specs.Patterns.{listed}
 use Rattle.gc_grammar.specs.Constructs.{Unplaced, placed}
 use Rattle.gc_parse_readers.specs.ExpressionReaders.{Nested, read_formula}

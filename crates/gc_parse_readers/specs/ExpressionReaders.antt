@@ -11,8 +11,8 @@ use Rattle.gc_expr.specs.Trees as tree
 use Rattle.gc_expr.specs.Trees.{ExprTree, ANode, ASumPart, AProductPart, row, maybe, At}
 use Rattle.gc_ast.specs.Trees.{Tree, AQuery, AFormula, Formula}
 use Rattle.gc_ast.specs.Trees as query
-use Rattle.gc_grammar.specs.Kinds.{mark_kind, word_kind, number_kind, text_kind, name_kind}
-use Rattle.gc_grammar.specs.Readers.{Reader, read_both, read_made, read_behind, read_before, read_either, read_fork, read_optional, read_many, read_separated, read_as, read_mark, read_the_word, read_word, read_number, read_text, read_name, read_alone, read_numbered}
+use Rattle.gc_parse_readers.specs.Kinds.{mark_kind, word_kind, number_kind, text_kind, name_kind}
+use Rattle.gc_parse_readers.specs.Readers.{Reader, read_both, read_made, read_behind, read_before, read_either, read_fork, read_optional, read_many, read_separated, read_as, read_mark, read_the_word, read_word, read_number, read_text, read_name, read_alone, read_numbered}
 use Rattle.gc_grammar.specs.Expressions.{Expr, Suffix, PropertyOf, LabelOf, suffixed, prefixed, summed, multiplied, compared, chained}
 
 -- the readers of what brackets may hold

@@ -2,7 +2,7 @@
 use Rattle.std.specs.Prelude.{Bool, true, false, List, [], ◌∷◌, Option, Some, None, if◌then◌else◌}
 use Rattle.gc_lex.specs.declared.token.Token.{Token}
 use Rattle.gc_lex.specs.declared.token.Mark.TheVariants as mark
-use Rattle.gc_grammar.specs.Readers.{Reader, Got, then_read, read_behind, read_mark}
+use Rattle.gc_parse_readers.specs.Readers.{Reader, Got, then_read, read_behind, read_mark}
 
 -- no token is left
 abbrev pub ended : List Token → Bool

@@ -1,8 +1,11 @@
 pub mod ConstructReaders
 pub mod ExpressionReaders
+pub mod Kinds
 pub mod LaterReaders
 pub mod PatternReaders
 pub mod Points
 pub mod QueryReaders
+pub mod Readers
 pub mod Refusals
 pub mod RegexReaders
+pub mod Right

@@ -7,8 +7,8 @@ use Rattle.gc_lex.specs.declared.token.Mark.TheVariants as mark
 use Rattle.gc_ast.specs.declared.pattern.CountAt.{CountAt}
 use Rattle.gc_ast.specs.Trees as tree
 use Rattle.gc_ast.specs.Trees.{Tree, APropertyUse, APattern, APathBody, ALocated, Named, row}
-use Rattle.gc_grammar.specs.Kinds.{mark_kind, word_kind, number_kind, name_kind}
-use Rattle.gc_grammar.specs.Readers.{Reader, read_both, read_made, read_behind, read_before, read_either, read_fork, read_optional, read_many, read_separated, read_mark, read_the_word, read_word, read_number, read_name}
+use Rattle.gc_parse_readers.specs.Kinds.{mark_kind, word_kind, number_kind, name_kind}
+use Rattle.gc_parse_readers.specs.Readers.{Reader, read_both, read_made, read_behind, read_before, read_either, read_fork, read_optional, read_many, read_separated, read_mark, read_the_word, read_word, read_number, read_name}
 use Rattle.gc_grammar.specs.Regexes.{Expression}
 use Rattle.gc_grammar.specs.Patterns.{Unplaced, placed, listed, arrow, in_turn}
 use Rattle.gc_parse_readers.specs.RegexReaders.{read_regex}

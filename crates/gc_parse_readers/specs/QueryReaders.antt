@@ -5,9 +5,9 @@ use Rattle.gc_ast.specs.declared.query.SetOp.{SetOp}
 use Rattle.gc_ast.specs.declared.query.SetOp.TheVariants.{Union, Intersect, Minus}
 use Rattle.gc_ast.specs.Trees as tree
 use Rattle.gc_ast.specs.Trees.{Tree, AStatement, AQuery, ANextTerm, ATerm, AHead, ABasic, ABlock, AFormula, AnOptional, Named, row, rows, maybe}
-use Rattle.gc_grammar.specs.Kinds.{mark_kind, word_kind, name_kind}
+use Rattle.gc_parse_readers.specs.Kinds.{mark_kind, word_kind, name_kind}
 use Rattle.gc_lex.specs.declared.token.Token.{Token}
-use Rattle.gc_grammar.specs.Readers.{Reader, Reading, Got, stuck, read_both, read_made, read_behind, read_either, read_fork, read_optional, read_many, read_separated, read_as, read_mark, read_the_word, read_name}
+use Rattle.gc_parse_readers.specs.Readers.{Reader, Reading, Got, stuck, read_both, read_made, read_behind, read_either, read_fork, read_optional, read_many, read_separated, read_as, read_mark, read_the_word, read_name}
 use Rattle.gc_grammar.specs.Queries.{as_term, as_query, start}
 use Rattle.gc_parse_readers.specs.ExpressionReaders.{Nested, read_formula, read_expr, read_in_parentheses}
 use Rattle.gc_parse_readers.specs.PatternReaders.{read_vchain, read_located}

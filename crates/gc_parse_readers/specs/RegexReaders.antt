@@ -2,8 +2,8 @@
 use Rattle.std.specs.Prelude.{ℕ, zero, suc, List, [], ◌∷◌}
 use Rattle.gc_lex.specs.declared.token.Mark.TheVariants as mark
 use Rattle.gc_regx.specs.Trees as tree
-use Rattle.gc_grammar.specs.Kinds.{mark_kind}
-use Rattle.gc_grammar.specs.Readers.{Reader, stuck, read_both, read_made, read_behind, read_before, read_either, read_optional, read_several, read_separated, read_mark, read_word, read_name}
+use Rattle.gc_parse_readers.specs.Kinds.{mark_kind}
+use Rattle.gc_parse_readers.specs.Readers.{Reader, stuck, read_both, read_made, read_behind, read_before, read_either, read_optional, read_several, read_separated, read_mark, read_word, read_name}
 use Rattle.gc_grammar.specs.Regexes.{Expression, plain, turned, starred, chained}
 
 -- the kinds of tokens that a part begins with

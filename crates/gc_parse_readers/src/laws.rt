@@ -3,7 +3,7 @@ ghost use Rattle.gc_lex.specs.declared.token.Token.{Token};
 ghost use Rattle.gc_regx.specs.Trees.{RegexTree, ARegex};
 ghost use Rattle.gc_ast.specs.Trees.{Tree, AStatement};
 ghost use Rattle.gc_grammar.specs.Words.{Point};
-ghost use Rattle.gc_grammar.specs.Readers.{Got, Stuck};
+ghost use Rattle.gc_parse_readers.specs.Readers.{Got, Stuck};
 ghost use Rattle.gc_parse_readers.specs.Refusals.{IsRefusedAt};
 ghost use Rattle.gc_parse_readers.specs.QueryReaders.{file_reading};
 ghost use Rattle.gc_grammar.specs.Queries.{SpellsFile, SpellsRegex};

@@ -3,9 +3,9 @@ use Rattle.std.proofs.Common.{◌≡◌, refl, ap, sym, ◌∙◌, ℕ, ◌+◌,
 use Rattle.std.proofs.lemmas.List.{append-nil}
 use Rattle.gc_lex.specs.declared.token.Token.{Token}
 use Rattle.gc_grammar.specs.Words.{Point}
-use Rattle.gc_grammar.specs.Kinds.{begins}
+use Rattle.gc_parse_readers.specs.Kinds.{begins}
 use Rattle.gc_grammar.specs.Patterns.{in_turn}
-use Rattle.gc_grammar.specs.Readers.{Reader, Reading, Got, Stuck, in_front, read_many}
+use Rattle.gc_parse_readers.specs.Readers.{Reader, Reading, Got, Stuck, in_front, read_many}
 use Rattle.gc_parse_source.specs.declared.refusal.Refusal.{Refusal}
 use Rattle.gc_parse_source.specs.declared.refusal.Refusal.TheVariants as refusal
 use Rattle.gc_parse_source.specs.Turns.{in_front_in_turn}

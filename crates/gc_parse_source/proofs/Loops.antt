@@ -4,8 +4,8 @@ use Rattle.std.proofs.lemmas.List.{append_assoc, append-nil}
 use Rattle.gc_lex.specs.declared.token.Token.{Token}
 use Rattle.gc_ast.specs.Trees.{Tree, AQuery}
 use Rattle.gc_grammar.specs.Words.{Point}
-use Rattle.gc_grammar.specs.Kinds.{begins}
-use Rattle.gc_grammar.specs.Readers.{Reader, Reading, Got, Stuck, then_read, in_front, read_many}
+use Rattle.gc_parse_readers.specs.Kinds.{begins}
+use Rattle.gc_parse_readers.specs.Readers.{Reader, Reading, Got, Stuck, then_read, in_front, read_many}
 use Rattle.gc_parse_source.specs.declared.refusal.Refusal.{Refusal}
 use Rattle.gc_parse_source.specs.declared.refusal.Refusal.TheVariants as refusal
 use Rattle.gc_parse_source.specs.Results.{Gives, GivesWith}

@@ -6,8 +6,8 @@ use Rattle.gc_base.specs.declared.place.Sym.{Sym}
 use Rattle.gc_lex.specs.declared.token.Token.{Token}
 use Rattle.gc_lex.specs.declared.token.Token.TheVariants.{Word, Number, Text, Symbol}
 use Rattle.gc_expr.specs.Views.{Names, name_of, found_name}
-use Rattle.gc_grammar.specs.Kinds.{mark_kind, name_kind, word_kind, begins}
-use Rattle.gc_grammar.specs.Readers.{means_name, first_means, behind}
+use Rattle.gc_parse_readers.specs.Kinds.{mark_kind, name_kind, word_kind, begins}
+use Rattle.gc_parse_readers.specs.Readers.{means_name, first_means, behind}
 use Rattle.gc_parse_readers.proofs.TokenKinds.{mark_below, one_kind, reserved_kind, behind_place}
 use Rattle.gc_parse_source.specs.Sources.{IsNumberOf, AreNumbersOf, Extends}
 use Rattle.gc_parse_source.proofs.Prefixes.{take_snoc}

@@ -5,7 +5,7 @@ use Rattle.gc_ast.specs.Trees.{Tree, AQuery}
 use Rattle.gc_expr.specs.Views.{Names}
 use Rattle.gc_ast.specs.declared.query.Query.{Query}
 use Rattle.gc_ast.specs.QueryViews.{query_tree}
-use Rattle.gc_grammar.specs.Readers.{Reader, Reading, Got, Stuck, first_means, behind}
+use Rattle.gc_parse_readers.specs.Readers.{Reader, Reading, Got, Stuck, first_means, behind}
 use Rattle.gc_parse_readers.specs.Points.{bare, point}
 use Rattle.gc_parse_source.specs.Sources.{Tokens}
 use Rattle.gc_parse_source.specs.declared.refusal.Refusal.{Refusal}

@@ -1,7 +1,7 @@
 ghost use Rattle.std.specs.Prelude.{◌≡◌, ◌∷◌, [], drop, true};
 ghost use Rattle.gc_base.specs.Words.{is_reserved};
 ghost use Rattle.gc_lex.specs.declared.token.Mark.TheVariants as mark;
-ghost use Rattle.gc_grammar.specs.Kinds.{begins, begins_so, mark_kind, name_kind};
+ghost use Rattle.gc_parse_readers.specs.Kinds.{begins, begins_so, mark_kind, name_kind};
 ghost use Rattle.gc_parse_readers.specs.ConstructReaders.{projected_kinds, property_kinds};
 ghost use Rattle.gc_parse_readers.specs.ExpressionReaders.{count_of_rows};
 ghost use Rattle.gc_parse_readers.specs.PatternReaders.{in_slashes_kinds, link_kinds};

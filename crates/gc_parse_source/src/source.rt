@@ -1,8 +1,8 @@
 ghost use Rattle.std.specs.Prelude.{◌≡◌, ◌∷◌, ◌+◌, ◌<◌, ◌^◌, [], drop, length, true, Some, IfOk};
 ghost use Rattle.gc_base.specs.Words.{is_reserved};
 ghost use Rattle.gc_expr.specs.Views.{name_of};
-ghost use Rattle.gc_grammar.specs.Kinds.{among, begins, kind, mark_kind, word_kind, name_kind, number_kind, text_kind};
-ghost use Rattle.gc_grammar.specs.Readers.{means_mark, means_the_word, means_word, means_number, means_text, means_name};
+ghost use Rattle.gc_parse_readers.specs.Kinds.{among, begins, kind, mark_kind, word_kind, name_kind, number_kind, text_kind};
+ghost use Rattle.gc_parse_readers.specs.Readers.{means_mark, means_the_word, means_word, means_number, means_text, means_name};
 
 use crate::numbering::numbered;
 use crate::refusal::Refusal;

@@ -11,7 +11,7 @@ use Rattle.gc_print.specs.LooseTrees.{looseness_of, rank}
 use Rattle.gc_print.specs.declared.looseness.Looseness.{Looseness}
 use Rattle.gc_print.specs.declared.looseness.Looseness.TheVariants as loose
 use Rattle.gc_print.specs.RegexTexts.{Part, enclosed, text_of}
-use Rattle.gc_print.specs.Expressions.{IsExpression}
+use Rattle.gc_regx.specs.Expressions.{IsFormed, IsExpression}
 
 AreAscii : List Part → Type 0
 AreAscii parts = AllByRecursion (λ part. IsAscii part.text) parts
@@ -42,7 +42,7 @@ Ascii ARegex tree = IsAscii (text_of tree)
 Ascii ARow parts = AreAscii (text_of parts)
 
 text_ascii : {k : Kind} (tree : RegexTree k) → IsExpression tree → Ascii k tree
-unfolding Ascii AreAscii text_of IsExpression
+unfolding Ascii AreAscii text_of IsFormed
 text_ascii (Label l) is = behind_byte 58 l (omega arith) (word_ascii l is)
 text_ascii (Back l) is = behind_byte 58 (l ++ 45 ∷ []) (omega arith) (before_byte l 45 (omega arith) (word_ascii l is))
 text_ascii Any is = behind_byte 95 [] (omega arith) IsAscii-nil

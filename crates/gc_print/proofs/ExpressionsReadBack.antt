@@ -4,7 +4,7 @@ use Rattle.std.proofs.lemmas.List.{append-nil}
 use Rattle.gc_lex.specs.Lexis.{lexed}
 use Rattle.gc_regx.specs.Trees.{RegexTree, ARegex}
 use Rattle.gc_grammar.specs.Queries.{SpellsRegex}
-use Rattle.gc_print.specs.Expressions.{IsExpression}
+use Rattle.gc_regx.specs.Expressions.{IsExpression}
 use Rattle.gc_print.specs.ReadingBack.{ReadsBack}
 use Rattle.gc_print.specs.RegexTexts.{text_of, regex_text}
 use Rattle.gc_print.specs.RegexTokens.{tokens_of}

@@ -13,7 +13,7 @@ use Rattle.gc_grammar.specs.Words.{Point, Lang, IsName, One, Both, Made, Either,
 use Rattle.gc_grammar.specs.Words as words
 use Rattle.gc_grammar.specs.Regexes.{Expression, plain, label, any, test, view, group, atom, star, cat, alt, regex_within, chained, turned, starred}
 use Rattle.gc_grammar.specs.Queries.{SpellsRegex}
-use Rattle.gc_print.specs.Expressions.{IsLong, IsExpression}
+use Rattle.gc_regx.specs.Expressions.{IsFormed, IsLong, IsExpression}
 use Rattle.gc_print.specs.WrittenTokens.{IsWritten, AreWritten}
 
 front_written : (xs ys : List Token) → AreWritten (xs ++ ys) → AreWritten xs
@@ -48,7 +48,7 @@ behind_written m L P gives p q ts a h s =
     subst P (sym s.made) (gives s.spelled.between q s.spelled.late s.value.1 (late_written ts s.spelled.early s.spelled.late s.spelled.whole h) s.spelled.behind)
 
 label_gives : Gives label
-unfolding IsExpression
+unfolding IsFormed
 label_gives p q ts e h s = by s.value.1 (s.made)
   where
     is : is_word s.value.0 ≡ true
@@ -59,7 +59,7 @@ label_gives p q ts e h s = by s.value.1 (s.made)
     by (Some u) made = subst (λ (f : Expression). IsExpression f.tree) (sym made) is
 
 any_gives : Gives any
-unfolding IsExpression
+unfolding IsFormed
 any_gives p q ts e h s = by s.value s.made
   where
     by : (against : Option (Unit {0})) → e ≡ plain (turned tree.Any tree.AnyBack against) → IsExpression e.tree
@@ -67,7 +67,7 @@ any_gives p q ts e h s = by s.value s.made
     by (Some u) made = subst (λ (f : Expression). IsExpression f.tree) (sym made) tt
 
 test_gives : Gives test
-unfolding IsExpression
+unfolding IsFormed
 test_gives p q ts e h s =
     subst (λ (f : Expression). IsExpression f.tree) (sym s.made)
     (behind_written mark.Bang (words.mark mark.Colon ▸ words.word) (λ a. is_word a ≡ true)
@@ -81,7 +81,7 @@ name_is p q ts a h s =
     subst (λ (n : Named). (is_word n.name ≡ true) × (is_reserved n.name ≡ false)) (sym s.made) (is, word.means.1)
 
 view_gives : Gives view
-unfolding IsExpression
+unfolding IsFormed
 view_gives p q ts e h s =
     subst (λ (f : Expression). IsExpression f.tree) (sym s.made)
     (behind_written mark.Tilde words.name (λ n. (is_word n.name ≡ true) × (is_reserved n.name ≡ false)) name_is p q ts s.value h s.spelled)
@@ -100,7 +100,7 @@ atom_gives inside gives p q ts e h (that (that (that (this s)))) = view_gives p 
 atom_gives inside gives p q ts e h (that (that (that (that s)))) = group_gives inside gives p q ts e h s
 
 star_gives : (inside : Lang Expression) → Gives inside → Gives (star inside)
-unfolding IsExpression
+unfolding IsFormed
 star_gives inside gives p q ts e h s = by s.value.1 s.made
   where
     part : IsExpression s.value.0.tree
@@ -111,7 +111,7 @@ star_gives inside gives p q ts e h s = by s.value.1 s.made
     by (Some u) made = subst (λ (f : Expression). IsExpression f.tree) (sym made) part
 
 many_give : (L : Lang Expression) → Gives L → (p q : Point) (ts : List Token) (es : List Expression) → AreWritten ts → many L p ts es q → IsExpression (row (map (λ e. e.tree) es))
-unfolding IsExpression
+unfolding IsFormed
 many_give L gives p q ts [] h s = tt
 many_give L gives p q ts (e ∷ es) h s =
     (gives p s.2 s.0 e (early_written ts s.0 s.1 s.3 h) s.4, many_give L gives s.2 q s.1 es (late_written ts s.0 s.1 s.3 h) s.5)
@@ -119,12 +119,12 @@ many_give L gives p q ts (e ∷ es) h s =
 -- one part is itself, and two or more are a long list
 chained_is : (make : RegexTree ARow → RegexTree ARegex) → ((parts : RegexTree ARow) → IsLong parts → IsExpression parts → IsExpression (make parts))
     → (e : Expression) (es : List Expression) → IsExpression e.tree → IsExpression (row (map (λ f. f.tree) es)) → IsExpression (chained make (e ∷ es)).tree
-unfolding IsExpression
+unfolding IsFormed
 chained_is make is e [] first later = first
 chained_is make is e (f ∷ es) first later = is (more e.tree (more f.tree (row (map (λ g. g.tree) es)))) tt (first, later)
 
 cat_gives : (inside : Lang Expression) → Gives inside → Gives (cat inside)
-unfolding IsExpression
+unfolding IsFormed
 cat_gives inside gives p q ts e h s =
     let list = s.spelled in
     let both = list.spelled in
@@ -134,7 +134,7 @@ cat_gives inside gives p q ts e h s =
     (chained_is tree.Cat (λ parts long is. (long, is)) list.value.0 list.value.1 first later)
 
 alt_gives : (inside : Lang Expression) → Gives inside → Gives (alt inside)
-unfolding IsExpression
+unfolding IsFormed
 alt_gives inside gives p q ts e h s =
     let list = s.spelled in
     let both = list.spelled in

@@ -12,7 +12,7 @@ use Rattle.gc_print.specs.declared.looseness.Looseness.{Looseness}
 use Rattle.gc_print.specs.declared.looseness.Looseness.TheVariants as loose
 use Rattle.gc_print.specs.RegexTexts.{Part, enclosed, text_of}
 use Rattle.gc_print.specs.RegexTokens.{TokenPart, enclosed_tokens, joined, tokens_of}
-use Rattle.gc_print.specs.Expressions.{IsLong, IsExpression}
+use Rattle.gc_regx.specs.Expressions.{IsFormed, IsLong, IsExpression}
 use Rattle.gc_print.proofs.Lexing.{Lexes, lexes_token}
 use Rattle.gc_print.proofs.LexedTexts.{ends_word, is_dense, lexes_word, lexes_colon, lexes_low_line, lexes_minus, lexes_bang, lexes_tilde, lexes_star, lexes_bar, lexes_open, lexes_close, lexes_space}
 
@@ -86,7 +86,7 @@ long_lexes c between ends behind_byte most (more part (more other row)) long par
     (record { looseness = looseness_of part; tokens = tokens_of part }) (tokens_of (more other row)) parts.0 parts.1
 
 pub expression_lexes : {k : Kind} (tree : RegexTree k) → IsExpression tree → Claim k tree
-unfolding text_of tokens_of IsExpression
+unfolding text_of tokens_of IsFormed
 expression_lexes (Label l) is = record { dense = λ rest. refl; lexes = λ rest ts. lexes_colon l rest ts is }
 expression_lexes (Back l) is = record {
   dense = λ rest. refl;

@@ -1,12 +1,12 @@
 -- The texts of the parts of a list.
-use Rattle.std.proofs.Common.{◌≡◌, ℕ, zero, suc, ◌+◌, List, [], ◌∷◌, ◌++◌, map, refl, sym, ap, add-one, ◌∙◌, arith, ◌<◌, length, drop, get_or, append_assoc, rules, codes, Vec, Box, Global}
+use Rattle.std.proofs.Common.{◌≡◌, ℕ, zero, suc, ◌+◌, List, [], ◌∷◌, ◌++◌, map, refl, sym, ap, add-one, ◌∙◌, arith, ◌<◌, length, drop, get_or, append_assoc, codes, Vec, Box, Global}
 use Rattle.std.specs.List.{flat_map, join_with_byte}
 use Rattle.std.proofs.lemmas.List.{append-nil}
 use Rattle.std.proofs.Math.Seq.{drop-cons}
-use Rattle.gc_regx.specs.Trees as tree
 use Rattle.gc_regx.specs.Trees.{RegexTree, ARegex, row}
 use Rattle.gc_regx.specs.Views.{regex_tree}
-use Rattle.gc_regx.specs.declared.regex.Regex.{Regex, Cat, Alt, Star, the_lemmas}
+use Rattle.gc_regx.proofs.PartTrees.{cat_tree, alt_tree, star_tree}
+use Rattle.gc_regx.specs.declared.regex.Regex.{Regex, Cat, Alt, Star}
 use Rattle.gc_print.specs.declared.looseness.Looseness.{Looseness}
 use Rattle.gc_print.specs.declared.looseness.Looseness.TheVariants as loose
 use Rattle.gc_print.specs.RegexTexts.{byte_before, enclosed, part_of, text_of, regex_text}
@@ -35,18 +35,6 @@ joined_next (suc i) c text texts = rw add-one refl
 -- what stands in a list of parts
 abbrev pub part_text : Looseness → Regex → List ℕ
 part_text most part = enclosed most (part_of (regex_tree part))
-
-cat_tree : (parts : Vec Regex Global) → regex_tree (Cat parts) ≡ tree.Cat (row (map regex_tree parts.items))
-unfolding regex_tree
-cat_tree parts = search (rules, the_lemmas)
-
-alt_tree : (parts : Vec Regex Global) → regex_tree (Alt parts) ≡ tree.Alt (row (map regex_tree parts.items))
-unfolding regex_tree
-alt_tree parts = search (rules, the_lemmas)
-
-star_tree : (part : Box Regex Global) → regex_tree (Star part) ≡ tree.Star (regex_tree part.value)
-unfolding regex_tree
-star_tree part = search (rules, the_lemmas)
 
 pub cat_text : (parts : Vec Regex Global) → join_with_byte 32 (map (part_text loose.Star) parts.items) ≡ regex_text (regex_tree (Cat parts))
 unfolding text_of

@@ -18,7 +18,7 @@ use Rattle.gc_print.specs.LooseTrees.{looseness_of, rank}
 use Rattle.gc_print.specs.declared.looseness.Looseness.{Looseness}
 use Rattle.gc_print.specs.declared.looseness.Looseness.TheVariants as loose
 use Rattle.gc_print.specs.RegexTokens.{TokenPart, enclosed_tokens, joined, tokens_of}
-use Rattle.gc_print.specs.Expressions.{IsLong, IsExpression}
+use Rattle.gc_regx.specs.Expressions.{IsFormed, IsLong, IsExpression}
 
 -- no expression has parentheses deeper than this
 height : {k : Kind} → RegexTree k → ℕ
@@ -400,7 +400,7 @@ alt_parts (more part parts) row depth low = (
 
 -- every expression that the grammar gives is spelled by its tokens
 spells_tree : {k : Kind} (tree : RegexTree k) → IsExpression tree → SpellsKind k tree
-unfolding IsExpression IsName tokens_of SpellsKind SpellsRow height level
+unfolding IsFormed IsName tokens_of SpellsKind SpellsRow height level
 spells_tree (Label l) is = λ depth p low. label_spelled (regex_within depth) p l
 spells_tree (Back l) is = λ depth p low. back_spelled (regex_within depth) p l
 spells_tree Any is = λ depth p low. any_spelled (regex_within depth) p

@@ -1,4 +1,3 @@
-pub mod Expressions
 pub mod LooseTrees
 pub mod ReadingBack
 pub mod RegexTexts

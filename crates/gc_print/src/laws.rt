@@ -2,7 +2,7 @@ ghost use Rattle.std.specs.Prelude.{◌≡◌, List, ℕ, Ok};
 ghost use Rattle.gc_lex.specs.Lexis.{TokenList, lexed};
 ghost use Rattle.gc_regx.specs.Trees.{RegexTree, ARegex};
 ghost use Rattle.gc_grammar.specs.Queries.{SpellsRegex};
-ghost use Rattle.gc_print.specs.Expressions.{IsExpression};
+ghost use Rattle.gc_regx.specs.Expressions.{IsExpression};
 ghost use Rattle.gc_print.specs.ReadingBack.{ReadsBack};
 ghost use Rattle.gc_print.specs.RegexTexts.{regex_text};
 

@@ -15,32 +15,35 @@ fn two(alloc: Global, first: Regex, second: Regex) -> Result<RegexList, Memory> 
     Ok(parts)
 }
 
-#[test]
-fn a_star_of_branches_stands_in_parentheses(rt: HostRuntime) -> Result<(), Fail> {
-    let alloc = rt.alloc();
+// A star of branches.
+fn repeated(alloc: Global) -> Result<Regex, Fail> {
     let knows = Regex::label(name(alloc, b"knows")?);
     let either = Regex::alt(two(alloc, knows, Regex::any())?);
-    let text = print_regex(alloc, &Regex::star(alloc, either)?)?;
-    assert!(rt; text.as_slice() == b"(:knows|_)*".as_slice());
-    Ok(())
+    Ok(Regex::star(alloc, either)?)
 }
 
-#[test]
-fn parts_in_turn_have_a_space_between(rt: HostRuntime) -> Result<(), Fail> {
-    let alloc = rt.alloc();
+// Two labels in turn.
+fn in_turn(alloc: Global) -> Result<Regex, Fail> {
     let back = Regex::back(name(alloc, b"knows")?);
     let again = Regex::back(name(alloc, b"knows")?);
-    let text = print_regex(alloc, &Regex::cat(two(alloc, back, again)?))?;
-    assert!(rt; text.as_slice() == b":knows- :knows-".as_slice());
-    Ok(())
+    Ok(Regex::cat(two(alloc, back, again)?))
+}
+
+// A list in a list.
+fn nested(alloc: Global) -> Result<Regex, Fail> {
+    let view = Regex::star(alloc, Regex::view(name(alloc, b"w")?))?;
+    let inner = Regex::cat(two(alloc, Regex::test(name(alloc, b"Person")?), view)?);
+    Ok(Regex::cat(two(alloc, inner, Regex::any_back())?))
 }
 
 #[test]
-fn a_list_in_a_list_stands_in_parentheses(rt: HostRuntime) -> Result<(), Fail> {
+fn parentheses_stand_where_they_must_and_spaces_between_parts(rt: HostRuntime) -> Result<(), Fail> {
     let alloc = rt.alloc();
-    let view = Regex::star(alloc, Regex::view(name(alloc, b"w")?))?;
-    let inner = Regex::cat(two(alloc, Regex::test(name(alloc, b"Person")?), view)?);
-    let text = print_regex(alloc, &Regex::cat(two(alloc, inner, Regex::any_back())?))?;
+    let text = print_regex(alloc, &repeated(alloc)?)?;
+    assert!(rt; text.as_slice() == b"(:knows|_)*".as_slice());
+    let text = print_regex(alloc, &in_turn(alloc)?)?;
+    assert!(rt; text.as_slice() == b":knows- :knows-".as_slice());
+    let text = print_regex(alloc, &nested(alloc)?)?;
     assert!(rt; text.as_slice() == b"(!:Person ~w*) _-".as_slice());
     Ok(())
 }

@@ -5,7 +5,5 @@
 mod build;
 mod copy;
 mod regex;
-#[cfg(test)]
-mod tests;
 
 pub use regex::{Regex, RegexList};

@@ -7,7 +7,7 @@ use gc_ast::File;
 use gc_base::NameList;
 
 /// A query file that breaks no sort rule over graphs of the names that it keeps.
-#[derive(Debug, Drop)]
+#[derive(Drop)]
 pub struct Checked {
     file: File,
     graphs: NameList,

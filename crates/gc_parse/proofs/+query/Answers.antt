@@ -1,5 +1,5 @@
 use Rattle.gc_ast.specs.QueryViews.{optional_tree, head_tree, next_term_tree}
-use Rattle.gc_grammar.specs.Kinds.{word_kind}
+use Rattle.gc_parse_readers.specs.Kinds.{word_kind}
 use Rattle.gc_parse_source.proofs.Loops.{loop_stops, loop_goes_on, loop_exits, loop_begins}
 use Rattle.gc_parse_readers.specs.QueryReaders.{nested, read_optional_block, read_head, read_next_term, set_op_kinds}
 use Rattle.gc_parse_readers.specs.Points.{bare}

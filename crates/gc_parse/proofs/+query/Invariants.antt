@@ -1,6 +1,6 @@
 use Rattle.gc_ast.specs.QueryViews.{optional_tree, head_tree, next_term_tree}
-use Rattle.gc_grammar.specs.Kinds.{word_kind}
-use Rattle.gc_grammar.specs.Readers.{in_front, read_many}
+use Rattle.gc_parse_readers.specs.Kinds.{word_kind}
+use Rattle.gc_parse_readers.specs.Readers.{in_front, read_many}
 use Rattle.gc_parse_readers.specs.QueryReaders.{nested, read_optional_block, read_head, read_next_term, set_op_kinds}
 use Rattle.gc_parse_readers.specs.Points.{bare}
 use Rattle.std.proofs.Common.{◌≡◌, ◌+◌, ◌*◌, ◌-◌, [], ◌∷◌, codes, drop, map}

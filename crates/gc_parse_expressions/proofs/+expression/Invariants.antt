@@ -1,6 +1,6 @@
 use Rattle.gc_expr.specs.Views.{expr_tree, sum_part_tree, product_part_tree}
-use Rattle.gc_grammar.specs.Kinds.{mark_kind, word_kind}
-use Rattle.gc_grammar.specs.Readers.{in_front, read_many, read_behind, read_the_word}
+use Rattle.gc_parse_readers.specs.Kinds.{mark_kind, word_kind}
+use Rattle.gc_parse_readers.specs.Readers.{in_front, read_many, read_behind, read_the_word}
 use Rattle.gc_parse_readers.specs.ExpressionReaders.{product_kinds, read_and, read_not, read_sum_part, read_product_part}
 use Rattle.gc_parse_readers.specs.QueryReaders.{nested}
 use Rattle.gc_parse_readers.specs.Points.{point}

@@ -1,6 +1,6 @@
 use Rattle.std.proofs.Common.{◌≡◌, ◌-◌, [], ◌∷◌, drop, map}
 use Rattle.gc_ast.specs.QueryViews.{statement_tree}
-use Rattle.gc_grammar.specs.Readers.{in_front}
+use Rattle.gc_parse_readers.specs.Readers.{in_front}
 use Rattle.gc_parse_readers.specs.QueryReaders.{nested, read_later, read_statement}
 use Rattle.gc_parse_readers.specs.Points.{bare}
 use Rattle.gc_parse.proofs.files.later_statements.Given as goal

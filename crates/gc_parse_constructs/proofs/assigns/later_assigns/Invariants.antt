@@ -1,6 +1,6 @@
 use Rattle.gc_ast.specs.QueryViews.{assign_tree}
-use Rattle.gc_grammar.specs.Kinds.{mark_kind}
-use Rattle.gc_grammar.specs.Readers.{in_front, read_many, read_behind, read_mark}
+use Rattle.gc_parse_readers.specs.Kinds.{mark_kind}
+use Rattle.gc_parse_readers.specs.Readers.{in_front, read_many, read_behind, read_mark}
 use Rattle.gc_parse_readers.specs.ConstructReaders.{read_assign}
 use Rattle.gc_parse_readers.specs.QueryReaders.{nested}
 use Rattle.gc_parse_readers.specs.Points.{bare}

@@ -1,5 +1,5 @@
 use Rattle.gc_ast.specs.QueryViews.{change_tree}
-use Rattle.gc_grammar.specs.Kinds.{word_kind}
+use Rattle.gc_parse_readers.specs.Kinds.{word_kind}
 use Rattle.gc_parse_source.proofs.Loops.{loop_stops, loop_goes_on, loop_exits, loop_begins}
 use Rattle.gc_parse_readers.specs.ConstructReaders.{read_sub}
 use Rattle.gc_parse_readers.specs.QueryReaders.{nested}

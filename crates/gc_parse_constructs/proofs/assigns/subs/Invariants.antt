@@ -1,6 +1,6 @@
 use Rattle.gc_ast.specs.QueryViews.{change_tree}
-use Rattle.gc_grammar.specs.Kinds.{word_kind}
-use Rattle.gc_grammar.specs.Readers.{in_front, read_many}
+use Rattle.gc_parse_readers.specs.Kinds.{word_kind}
+use Rattle.gc_parse_readers.specs.Readers.{in_front, read_many}
 use Rattle.gc_parse_readers.specs.ConstructReaders.{read_sub}
 use Rattle.gc_parse_readers.specs.QueryReaders.{nested}
 use Rattle.gc_parse_readers.specs.Points.{bare}

@@ -1,8 +1,8 @@
 use Rattle.std.proofs.Common.{sym, ◌∙◌, ◌-◌, ◌∷◌, [], drop, map}
 use Rattle.std.proofs.lemmas.Result.{err_from_is_err_and}
 use Rattle.gc_lex.specs.declared.token.Mark.TheVariants as mark
-use Rattle.gc_grammar.specs.Kinds.{mark_kind}
-use Rattle.gc_grammar.specs.Readers.{read_behind, read_mark}
+use Rattle.gc_parse_readers.specs.Kinds.{mark_kind}
+use Rattle.gc_parse_readers.specs.Readers.{read_behind, read_mark}
 use Rattle.gc_parse_readers.specs.ConstructReaders.{read_group_term}
 use Rattle.gc_ast.specs.PatternViews.{group_term_tree}
 use Rattle.gc_parse_readers.specs.Points.{bare}

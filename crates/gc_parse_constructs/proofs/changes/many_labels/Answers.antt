@@ -1,7 +1,7 @@
 use Rattle.std.proofs.Common.{sym, ◌∙◌, ◌-◌, ◌∷◌, [], drop, map}
 use Rattle.std.proofs.lemmas.Result.{err_from_is_err_and}
 use Rattle.gc_lex.specs.declared.token.Mark.TheVariants as mark
-use Rattle.gc_grammar.specs.Kinds.{mark_kind}
+use Rattle.gc_parse_readers.specs.Kinds.{mark_kind}
 use Rattle.gc_parse_readers.specs.ConstructReaders.{read_new_label, read_new_labels}
 use Rattle.gc_parse_readers.specs.Points.{bare}
 use Rattle.gc_parse_source.proofs.Loops.{loop_stops, loop_goes_on, loop_exits}

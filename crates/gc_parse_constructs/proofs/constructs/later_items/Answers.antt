@@ -1,6 +1,6 @@
 use Rattle.gc_ast.specs.QueryViews.{item_tree}
-use Rattle.gc_grammar.specs.Kinds.{mark_kind}
-use Rattle.gc_grammar.specs.Readers.{read_behind, read_mark}
+use Rattle.gc_parse_readers.specs.Kinds.{mark_kind}
+use Rattle.gc_parse_readers.specs.Readers.{read_behind, read_mark}
 use Rattle.gc_parse_source.proofs.Loops.{loop_stops, loop_goes_on, loop_exits}
 use Rattle.gc_parse_readers.specs.ConstructReaders.{read_item}
 use Rattle.gc_parse_readers.specs.QueryReaders.{nested}

@@ -1,6 +1,6 @@
 use Rattle.gc_ast.specs.QueryViews.{part_tree}
 use Rattle.gc_ast.specs.declared.construct.ConstructPart.{ConstructPart}
-use Rattle.gc_grammar.specs.Readers.{read_both}
+use Rattle.gc_parse_readers.specs.Readers.{read_both}
 use Rattle.gc_parse_source.proofs.LinkLoops.{links_stop, links_go_on, links_exit}
 use Rattle.gc_parse_readers.specs.ConstructReaders.{read_clink, read_cnode}
 use Rattle.gc_parse_readers.specs.PatternReaders.{link_kinds}

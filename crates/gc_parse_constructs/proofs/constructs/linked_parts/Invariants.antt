@@ -1,5 +1,5 @@
 use Rattle.gc_ast.specs.QueryViews.{part_tree}
-use Rattle.gc_grammar.specs.Readers.{read_many, read_both}
+use Rattle.gc_parse_readers.specs.Readers.{read_many, read_both}
 use Rattle.gc_parse_readers.specs.ConstructReaders.{read_clink, read_cnode}
 use Rattle.gc_parse_source.specs.Turns.{in_front_in_turn}
 use Rattle.gc_parse_readers.specs.PatternReaders.{link_kinds}

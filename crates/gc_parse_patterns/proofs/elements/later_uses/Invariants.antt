@@ -1,8 +1,8 @@
 use Rattle.std.proofs.Common.{◌≡◌, ◌-◌, [], ◌∷◌, drop, map}
-use Rattle.gc_grammar.specs.Readers.{in_front, read_many}
+use Rattle.gc_parse_readers.specs.Readers.{in_front, read_many}
 use Rattle.gc_lex.specs.declared.token.Mark.TheVariants as mark
-use Rattle.gc_grammar.specs.Kinds.{mark_kind}
-use Rattle.gc_grammar.specs.Readers.{read_behind, read_mark}
+use Rattle.gc_parse_readers.specs.Kinds.{mark_kind}
+use Rattle.gc_parse_readers.specs.Readers.{read_behind, read_mark}
 use Rattle.gc_parse_readers.specs.PatternReaders.{read_property_use}
 use Rattle.gc_parse_patterns.specs.PatternViews.{property_use_tree}
 use Rattle.gc_parse_readers.specs.Points.{bare}

@@ -1,8 +1,8 @@
 use Rattle.std.proofs.Common.{sym, ◌∙◌, ◌-◌, ◌∷◌, [], drop, map}
 use Rattle.std.proofs.lemmas.Result.{err_from_is_err_and}
 use Rattle.gc_lex.specs.declared.token.Mark.TheVariants as mark
-use Rattle.gc_grammar.specs.Kinds.{mark_kind}
-use Rattle.gc_grammar.specs.Readers.{read_behind, read_mark, read_word}
+use Rattle.gc_parse_readers.specs.Kinds.{mark_kind}
+use Rattle.gc_parse_readers.specs.Readers.{read_behind, read_mark, read_word}
 use Rattle.gc_parse_readers.specs.Points.{bare}
 use Rattle.gc_parse_source.proofs.Loops.{loop_stops, loop_goes_on, loop_exits}
 use Rattle.gc_parse_patterns.proofs.labels.later_words.Goals as goal

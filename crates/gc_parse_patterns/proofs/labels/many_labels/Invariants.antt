@@ -1,7 +1,7 @@
 use Rattle.std.proofs.Common.{◌≡◌, ◌-◌, [], ◌∷◌, drop, map}
-use Rattle.gc_grammar.specs.Readers.{in_front, read_many}
+use Rattle.gc_parse_readers.specs.Readers.{in_front, read_many}
 use Rattle.gc_lex.specs.declared.token.Mark.TheVariants as mark
-use Rattle.gc_grammar.specs.Kinds.{mark_kind}
+use Rattle.gc_parse_readers.specs.Kinds.{mark_kind}
 use Rattle.gc_parse_readers.specs.PatternReaders.{read_labels}
 use Rattle.gc_parse_readers.specs.Points.{bare}
 use Rattle.gc_parse_patterns.proofs.labels.many_labels.Given as goal

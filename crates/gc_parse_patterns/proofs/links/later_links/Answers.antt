@@ -1,7 +1,7 @@
 use Rattle.std.proofs.Common.{sym, ◌∙◌, ◌-◌, drop, map}
 use Rattle.std.proofs.lemmas.Result.{err_from_is_err_and}
 use Rattle.gc_ast.specs.PatternViews.{pattern_tree}
-use Rattle.gc_grammar.specs.Readers.{read_both}
+use Rattle.gc_parse_readers.specs.Readers.{read_both}
 use Rattle.gc_parse_patterns.specs.PatternViews.{pair_tree}
 use Rattle.gc_parse_readers.specs.PatternReaders.{link_kinds, read_link, read_node}
 use Rattle.gc_parse_readers.specs.Points.{bare}

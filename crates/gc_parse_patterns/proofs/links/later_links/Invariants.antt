@@ -1,6 +1,6 @@
 use Rattle.std.proofs.Common.{◌≡◌, ◌-◌, [], ◌∷◌, drop, map}
 use Rattle.gc_ast.specs.PatternViews.{pattern_tree}
-use Rattle.gc_grammar.specs.Readers.{read_both, read_many}
+use Rattle.gc_parse_readers.specs.Readers.{read_both, read_many}
 use Rattle.gc_parse_source.specs.Turns.{in_front_in_turn}
 use Rattle.gc_parse_readers.specs.PatternReaders.{link_kinds, read_link, read_node}
 use Rattle.gc_parse_readers.specs.Points.{bare}

@@ -3,8 +3,8 @@ use Rattle.std.proofs.lemmas.Result.{err_from_is_err_and}
 use Rattle.gc_lex.specs.declared.token.Mark.TheVariants as mark
 use Rattle.gc_ast.specs.declared.pattern.Chain.{Chain}
 use Rattle.gc_ast.specs.PatternViews.{pattern_tree}
-use Rattle.gc_grammar.specs.Kinds.{mark_kind}
-use Rattle.gc_grammar.specs.Readers.{read_behind, read_mark}
+use Rattle.gc_parse_readers.specs.Kinds.{mark_kind}
+use Rattle.gc_parse_readers.specs.Readers.{read_behind, read_mark}
 use Rattle.gc_parse_readers.specs.PatternReaders.{read_vchain}
 use Rattle.gc_parse_readers.specs.Points.{bare}
 use Rattle.gc_parse_source.proofs.Loops.{loop_stops, loop_goes_on, loop_exits}

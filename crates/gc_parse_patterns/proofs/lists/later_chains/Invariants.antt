@@ -2,8 +2,8 @@ use Rattle.std.proofs.Common.{◌≡◌, ◌-◌, [], ◌∷◌, drop, map}
 use Rattle.gc_lex.specs.declared.token.Mark.TheVariants as mark
 use Rattle.gc_ast.specs.declared.pattern.Chain.{Chain}
 use Rattle.gc_ast.specs.PatternViews.{pattern_tree}
-use Rattle.gc_grammar.specs.Kinds.{mark_kind}
-use Rattle.gc_grammar.specs.Readers.{in_front, read_many, read_behind, read_mark}
+use Rattle.gc_parse_readers.specs.Kinds.{mark_kind}
+use Rattle.gc_parse_readers.specs.Readers.{in_front, read_many, read_behind, read_mark}
 use Rattle.gc_parse_readers.specs.PatternReaders.{read_vchain}
 use Rattle.gc_parse_readers.specs.Points.{bare}
 use Rattle.gc_parse_patterns.proofs.lists.later_chains.Given as goal

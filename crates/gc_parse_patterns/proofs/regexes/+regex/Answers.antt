@@ -1,8 +1,8 @@
 use Rattle.std.proofs.Common.{sym, ◌∙◌, ◌-◌, ◌∷◌, [], drop}
 use Rattle.std.proofs.lemmas.Result.{err_from_is_err_and}
 use Rattle.gc_lex.specs.declared.token.Mark.TheVariants as mark
-use Rattle.gc_grammar.specs.Kinds.{mark_kind}
-use Rattle.gc_grammar.specs.Readers.{read_behind, read_mark}
+use Rattle.gc_parse_readers.specs.Kinds.{mark_kind}
+use Rattle.gc_parse_readers.specs.Readers.{read_behind, read_mark}
 use Rattle.gc_parse_readers.specs.RegexReaders.{part_kinds, read_star, read_cat, read_regex}
 use Rattle.gc_parse_patterns.specs.RegexViews.{part_view, parts_view}
 use Rattle.gc_parse_readers.specs.Points.{bare}

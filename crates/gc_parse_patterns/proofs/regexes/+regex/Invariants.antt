@@ -1,7 +1,7 @@
 use Rattle.std.proofs.Common.{◌≡◌, ◌+◌, ◌*◌, ◌-◌, [], ◌∷◌, drop}
 use Rattle.gc_lex.specs.declared.token.Mark.TheVariants as mark
-use Rattle.gc_grammar.specs.Kinds.{mark_kind}
-use Rattle.gc_grammar.specs.Readers.{in_front, read_many, read_behind, read_mark}
+use Rattle.gc_parse_readers.specs.Kinds.{mark_kind}
+use Rattle.gc_parse_readers.specs.Readers.{in_front, read_many, read_behind, read_mark}
 use Rattle.gc_parse_readers.specs.RegexReaders.{part_kinds, read_star, read_cat, read_regex}
 use Rattle.gc_parse_patterns.specs.RegexViews.{part_view, parts_view}
 use Rattle.gc_parse_readers.specs.Points.{bare}

@@ -1,6 +1,6 @@
 use Rattle.std.proofs.Common.{sym, ◌∙◌, [], ◌∷◌, codes}
 use Rattle.gc_lex.specs.declared.token.Mark.TheVariants as mark
-use Rattle.gc_grammar.specs.Kinds.{mark_kind, word_kind}
+use Rattle.gc_parse_readers.specs.Kinds.{mark_kind, word_kind}
 use Rattle.gc_parse_readers.proofs.Fronts.{begins_next}
 use Rattle.gc_parse_source.proofs.forks.is_count_of_rows_at.Goals as goal
 

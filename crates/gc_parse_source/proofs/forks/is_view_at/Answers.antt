@@ -1,5 +1,5 @@
 use Rattle.std.proofs.Common.{sym, ◌∙◌, ◌+◌, [], ◌∷◌, codes, drop}
-use Rattle.gc_grammar.specs.Kinds.{word_kind}
+use Rattle.gc_parse_readers.specs.Kinds.{word_kind}
 use Rattle.gc_parse_readers.proofs.Fronts.{begins_next, begins_last}
 use Rattle.gc_parse_source.proofs.forks.is_view_at.Goals as goal
 

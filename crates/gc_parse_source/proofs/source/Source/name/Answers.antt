@@ -1,7 +1,7 @@
 use Rattle.std.proofs.Common.{◌≡◌, sym, subst, ◌∙◌, ◌+◌, drop, true, Some, ◌∷◌, []}
 use Rattle.gc_expr.specs.Views.{name_of}
-use Rattle.gc_grammar.specs.Kinds.{begins, name_kind}
-use Rattle.gc_grammar.specs.Readers.{first_means, means_name, behind}
+use Rattle.gc_parse_readers.specs.Kinds.{begins, name_kind}
+use Rattle.gc_parse_readers.specs.Readers.{first_means, means_name, behind}
 use Rattle.gc_parse_source.proofs.NameNumbers.{name_at, numbers_length}
 use Rattle.gc_parse_readers.proofs.TokenKinds.{place_within}
 use Rattle.gc_parse_source.proofs.source.Source.name.Goals as goal

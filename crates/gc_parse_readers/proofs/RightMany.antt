@@ -3,12 +3,12 @@ use Rattle.std.proofs.Common.{◌≡◌, refl, sym, ap, ◌∙◌, subst, ℕ, z
 use Rattle.std.proofs.lemmas.Option.{none-some}
 use Rattle.gc_lex.specs.declared.token.Token.{Token}
 use Rattle.gc_grammar.specs.Words.{Point, Lang, many, several, separated}
-use Rattle.gc_grammar.specs.Kinds.{kind, begins, covers, apart}
-use Rattle.gc_grammar.specs.Readers.{Reader, Reading, Got, Stuck, then_read, in_front, read_many, read_several, read_separated}
-use Rattle.gc_grammar.specs.Right.{front, Found, Sound, Right, Outline, Opens, both_of, optional_of, several_of, separated_of}
-use Rattle.gc_grammar.proofs.KindLaws.{kept_apart, begins_neither_left, begins_neither_right, begins_alike, alike_behind, not_covered, opens_covered, opens_first}
-use Rattle.gc_grammar.proofs.RightBoth.{leaves_one_less, right_both, right_made, right_behind}
-use Rattle.gc_grammar.proofs.RightChoices.{chosen_again}
+use Rattle.gc_parse_readers.specs.Kinds.{kind, begins, covers, apart}
+use Rattle.gc_parse_readers.specs.Readers.{Reader, Reading, Got, Stuck, then_read, in_front, read_many, read_several, read_separated}
+use Rattle.gc_parse_readers.specs.Right.{front, Found, Sound, Right, Outline, Opens, both_of, optional_of, several_of, separated_of}
+use Rattle.gc_parse_readers.proofs.KindLaws.{kept_apart, begins_neither_left, begins_neither_right, begins_alike, alike_behind, not_covered, opens_covered, opens_first}
+use Rattle.gc_parse_readers.proofs.RightBoth.{leaves_one_less, right_both, right_made, right_behind}
+use Rattle.gc_parse_readers.proofs.RightChoices.{chosen_again}
 
 -- where the list does not begin so, none is read
 many_none : {A : Type 0} (kinds : List ℕ) (q : Reader A) (room : ℕ) (start : Point) (ts : List Token)

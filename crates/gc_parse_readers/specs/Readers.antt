@@ -8,7 +8,7 @@ use Rattle.gc_lex.specs.declared.token.Token.TheVariants.{Word, Number, Text, Sy
 use Rattle.gc_lex.specs.declared.token.Mark.{Mark}
 use Rattle.gc_ast.specs.Trees.{Tree, AQuery, Named}
 use Rattle.gc_grammar.specs.Words.{Point, next}
-use Rattle.gc_grammar.specs.Kinds.{mark_kind, begins, begins_so}
+use Rattle.gc_parse_readers.specs.Kinds.{mark_kind, begins, begins_so}
 
 -- what a reader gives: a value, the point after it and the tokens that are left; or the number of the
 -- token that it cannot go past

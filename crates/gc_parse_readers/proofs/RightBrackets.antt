@@ -5,12 +5,12 @@ use Rattle.gc_lex.specs.declared.token.Token.{Token}
 use Rattle.gc_lex.specs.declared.token.Mark.{Mark}
 use Rattle.gc_ast.specs.Trees.{Tree, AQuery}
 use Rattle.gc_grammar.specs.Words.{Point, Lang, mark, alone, numbered, ◌▸◌}
-use Rattle.gc_grammar.specs.Kinds.{mark_kind}
-use Rattle.gc_grammar.specs.Readers.{Reader, Reading, Got, Stuck, then_read, read_mark, read_behind, read_alone, read_numbered}
-use Rattle.gc_grammar.specs.Right.{Sound, Right, Outline, one_of, both_of}
-use Rattle.gc_grammar.proofs.KindLaws.{apart_none}
-use Rattle.gc_grammar.proofs.RightTokens.{right_mark}
-use Rattle.gc_grammar.proofs.RightBoth.{leaves_one_less, right_both_leaving, right_made}
+use Rattle.gc_parse_readers.specs.Kinds.{mark_kind}
+use Rattle.gc_parse_readers.specs.Readers.{Reader, Reading, Got, Stuck, then_read, read_mark, read_behind, read_alone, read_numbered}
+use Rattle.gc_parse_readers.specs.Right.{Sound, Right, Outline, one_of, both_of}
+use Rattle.gc_parse_readers.proofs.KindLaws.{apart_none}
+use Rattle.gc_parse_readers.proofs.RightTokens.{right_mark}
+use Rattle.gc_parse_readers.proofs.RightBoth.{leaves_one_less, right_both_leaving, right_made}
 
 -- before the first token of its own, and without queries
 abbrev alone_at : Point → Point

@@ -4,14 +4,14 @@ use Rattle.std.proofs.lemmas.Bool.{false≢true}
 use Rattle.gc_lex.specs.declared.token.Token.{Token}
 use Rattle.gc_lex.specs.declared.token.Mark.{Mark}
 use Rattle.gc_grammar.specs.Words.{mark, Point, Lang, ◌⋅◌, ◌⇒◌, ◌▸◌, ◌◂◌}
-use Rattle.gc_grammar.specs.Kinds.{mark_kind, kind, among, begins, begins_so, covers, apart}
-use Rattle.gc_grammar.specs.Readers.{Reader, read_mark, Reading, Got, Stuck, then_read, read_both, read_made, read_behind, read_before}
-use Rattle.gc_grammar.specs.Right.{Right, Outline, Opens, one_of}
-use Rattle.gc_grammar.proofs.KindLaws.{and_false, neither, covered, opens_apart}
-use Rattle.gc_grammar.proofs.RightTokens.{right_mark}
-use Rattle.gc_grammar.proofs.Forks.{matched, matched_none, matched_one, Reaches, Firm, sound_reaches, reaches_made, reaches_later, reaches_then}
-use Rattle.gc_grammar.proofs.RightFork.{Fronts, Way}
-use Rattle.gc_grammar.proofs.Taken.{Takes, IsToken, Taken, taken_mark}
+use Rattle.gc_parse_readers.specs.Kinds.{mark_kind, kind, among, begins, begins_so, covers, apart}
+use Rattle.gc_parse_readers.specs.Readers.{Reader, read_mark, Reading, Got, Stuck, then_read, read_both, read_made, read_behind, read_before}
+use Rattle.gc_parse_readers.specs.Right.{Right, Outline, Opens, one_of}
+use Rattle.gc_parse_readers.proofs.KindLaws.{and_false, neither, covered, opens_apart}
+use Rattle.gc_parse_readers.proofs.RightTokens.{right_mark}
+use Rattle.gc_parse_readers.proofs.Forks.{matched, matched_none, matched_one, Reaches, Firm, sound_reaches, reaches_made, reaches_later, reaches_then}
+use Rattle.gc_parse_readers.proofs.RightFork.{Fronts, Way}
+use Rattle.gc_parse_readers.proofs.Taken.{Takes, IsToken, Taken, taken_mark}
 
 -- a reader that is right goes on
 pub firm_right : {j J : ℕ} {A : Type 0} {L M : Lang A} {p q : Reader A} {o : Outline} → Right j J L M p q o → Firm j [] p

@@ -3,11 +3,11 @@ use Rattle.std.proofs.Common.{◌≡◌, refl, sym, ap, ◌∙◌, subst, ℕ, s
 use Rattle.std.proofs.lemmas.Bool.{and_from}
 use Rattle.gc_lex.specs.declared.token.Token.{Token}
 use Rattle.gc_grammar.specs.Words.{Point, Lang, ◌⋅◌, ◌⇒◌, ◌▸◌, ◌◂◌, as_value, name}
-use Rattle.gc_grammar.specs.Kinds.{name_kind, kind, among, begins, apart}
-use Rattle.gc_grammar.specs.Readers.{Reader, Reading, Got, Stuck, then_read, read_both, read_made, read_behind, read_before, read_as, read_name}
-use Rattle.gc_grammar.specs.Right.{front, Found, Sound, Right, Outline, Opens, one_of, both_of}
-use Rattle.gc_grammar.proofs.KindLaws.{neither, kept_apart, among_left, among_right, begins_neither_left, begins_neither_right, alike_behind}
-use Rattle.gc_grammar.proofs.RightTokens.{right_plain_name}
+use Rattle.gc_parse_readers.specs.Kinds.{name_kind, kind, among, begins, apart}
+use Rattle.gc_parse_readers.specs.Readers.{Reader, Reading, Got, Stuck, then_read, read_both, read_made, read_behind, read_before, read_as, read_name}
+use Rattle.gc_parse_readers.specs.Right.{front, Found, Sound, Right, Outline, Opens, one_of, both_of}
+use Rattle.gc_parse_readers.proofs.KindLaws.{neither, kept_apart, among_left, among_right, begins_neither_left, begins_neither_right, alike_behind}
+use Rattle.gc_parse_readers.proofs.RightTokens.{right_plain_name}
 
 -- where a whole list is short enough for one room, what is behind its beginning is so for another
 abbrev pub Leaves : ℕ → Outline → ℕ → Type 0

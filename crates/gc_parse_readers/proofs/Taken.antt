@@ -13,9 +13,10 @@ use Rattle.gc_lex.specs.declared.token.Token.TheVariants.{Word, Number, Text, Sy
 use Rattle.gc_lex.specs.declared.token.Mark.{Mark}
 use Rattle.gc_lex.specs.declared.token.Mark.TheVariants as mark
 use Rattle.gc_grammar.specs.Words.{Point, Lang, One, IsName, this, that, mark, the_word, name, as_value, ◌⇒◌, ◌∣◌}
-use Rattle.gc_grammar.specs.Kinds.{mark_kind, number_kind, text_kind, name_kind, word_kind, kind, among, begins, covers}
-use Rattle.gc_grammar.specs.Readers.{Reader, Reading, Got, Stuck, then_read, read_one, meant, read_made, read_as, read_either, means_mark, means_the_word, means_name, read_mark, read_the_word, read_name}
-use Rattle.gc_grammar.proofs.KindLaws.{not_covered}
+use Rattle.gc_parse_readers.specs.Kinds.{mark_kind, number_kind, text_kind, name_kind, word_kind, kind, among, begins, covers}
+use Rattle.gc_parse_readers.specs.Readers.{Reader, Reading, Got, Stuck, then_read, read_one, meant, read_made, read_as, read_either, means_mark, means_the_word, means_name, read_mark, read_the_word, read_name}
+use Rattle.gc_parse_readers.proofs.KindLaws.{not_covered}
+use Rattle.gc_parse_readers.proofs.TokenKinds.{word_above, not_reserved}
 
 -- a reading used one token, or was stuck at one that is not of some kinds
 abbrev pub Takes : {A : Type 0} → List ℕ → Point → List Token → Reading A → Type 0
@@ -95,13 +96,6 @@ below_word m k above = apart_from (mark_kind m) (mark_below m)
     apart_from : (n : ℕ) → ltb n 27 ≡ true → nat_eq n k ≡ false
     apart_from n below = grind (arith, nat_tests)
 
-word_above : (w : List ℕ) → 29 ≤ word_kind w
-word_above w = by (is_reserved w)
-  where
-    by : (b : Bool) → 29 ≤ (if b then 30 + position_or_len (pointwise nat_eq w) reserved_words else name_kind)
-    by true = omega arith
-    by false = omega arith
-
 mark_refused : (m : Mark) (token : Token) → means_mark m token ≡ None → among (mark_kind m ∷ []) (kind token) ≡ false
 mark_refused m (Word w) h = let above = word_above w in among_one (word_kind w) (mark_kind m) (above_mark (word_kind w) m (omega (arith, above)))
 mark_refused m (Number n) h = among_one number_kind (mark_kind m) (above_mark number_kind m (omega arith))
@@ -142,9 +136,6 @@ same_reserved w other is is' same =
 
 reserved_above : (w : List ℕ) → is_reserved w ≡ true → 30 ≤ word_kind w
 reserved_above w is = subst (λ b. 30 ≤ (if b then 30 + position_or_len (pointwise nat_eq w) reserved_words else name_kind)) (sym is) (omega arith)
-
-not_reserved : (w : List ℕ) → is_reserved w ≡ false → word_kind w ≡ name_kind
-not_reserved w is = ap (λ b. if b then 30 + position_or_len (pointwise nat_eq w) reserved_words else name_kind) is
 
 the_word_refused : (w : List ℕ) → is_reserved w ≡ true → (token : Token) → means_the_word w token ≡ None → among (word_kind w ∷ []) (kind token) ≡ false
 the_word_refused w is (Symbol m) h = let above = reserved_above w is in among_one (mark_kind m) (word_kind w) (below_word m (word_kind w) (omega (arith, above)))

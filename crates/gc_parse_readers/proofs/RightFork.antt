@@ -3,12 +3,12 @@
 use Rattle.std.proofs.Common.{◌≡◌, refl, sym, ap, ◌∙◌, ℕ, ◌+◌, ◌<◌, ◌≤◌, arith, Bool, true, false, if◌then◌else◌, List, [], ◌∷◌, ◌++◌, length}
 use Rattle.gc_lex.specs.declared.token.Token.{Token}
 use Rattle.gc_grammar.specs.Words.{Point, Lang, this, that, ◌∣◌}
-use Rattle.gc_grammar.specs.Kinds.{begins, begins_so}
-use Rattle.gc_grammar.specs.Readers.{Reader, Reading, Got, Stuck, read_fork}
-use Rattle.gc_grammar.specs.Right.{Alike, Refused, Sound, Right, Outline, either_of}
-use Rattle.gc_grammar.proofs.KindLaws.{begins_neither_left, begins_neither_right}
-use Rattle.gc_grammar.proofs.RightChoices.{either_opens}
-use Rattle.gc_grammar.proofs.Forks.{matched, Reaches, Firm, begins_so_alike}
+use Rattle.gc_parse_readers.specs.Kinds.{begins, begins_so}
+use Rattle.gc_parse_readers.specs.Readers.{Reader, Reading, Got, Stuck, read_fork}
+use Rattle.gc_parse_readers.specs.Right.{Alike, Refused, Sound, Right, Outline, either_of}
+use Rattle.gc_parse_readers.proofs.KindLaws.{begins_neither_left, begins_neither_right}
+use Rattle.gc_parse_readers.proofs.RightChoices.{either_opens}
+use Rattle.gc_parse_readers.proofs.Forks.{matched, Reaches, Firm, begins_so_alike}
 
 -- each word of a language begins with such tokens, or none does, whatever follows it
 abbrev pub Fronts : {A : Type 0} → List (List ℕ) → Bool → Lang A → Type 0

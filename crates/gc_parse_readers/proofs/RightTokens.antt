@@ -11,10 +11,10 @@ use Rattle.gc_lex.specs.declared.token.Token.TheVariants.{Word, Number, Text, Sy
 use Rattle.gc_lex.specs.declared.token.Mark.{Mark}
 use Rattle.gc_lex.specs.declared.token.Mark.TheVariants as mark
 use Rattle.gc_grammar.specs.Words.{Point, One, IsName, mark, the_word, word, number, text, plain_name}
-use Rattle.gc_grammar.specs.Kinds.{mark_kind, number_kind, text_kind, name_kind, word_kind, any_word_kinds, kind, among}
-use Rattle.gc_grammar.specs.Readers.{Stuck, read_one, meant, means_mark, means_the_word, means_word, means_number, means_text, means_name, read_mark, read_the_word, read_word, read_number, read_text}
-use Rattle.gc_grammar.specs.Right.{Alike, Sound, Right, Opens, one_of}
-use Rattle.gc_grammar.proofs.KindLaws.{among_row, or_true}
+use Rattle.gc_parse_readers.specs.Kinds.{mark_kind, number_kind, text_kind, name_kind, word_kind, any_word_kinds, kind, among}
+use Rattle.gc_parse_readers.specs.Readers.{Stuck, read_one, meant, means_mark, means_the_word, means_word, means_number, means_text, means_name, read_mark, read_the_word, read_word, read_number, read_text}
+use Rattle.gc_parse_readers.specs.Right.{Alike, Sound, Right, Opens, one_of}
+use Rattle.gc_parse_readers.proofs.KindLaws.{among_row, or_true}
 
 -- a reading of one token says what it should, by what the token means
 one_sound : {A : Type 0} (J : ℕ) (Means : Token → A → Type 0) (means : Token → Option A) (start : Point) (token : Token) (ts : List Token)

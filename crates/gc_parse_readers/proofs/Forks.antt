@@ -3,10 +3,10 @@ use Rattle.std.proofs.Common.{◌≡◌, ◌∙◌, refl, sym, ap, ℕ, suc, ◌
 use Rattle.std.proofs.lemmas.Option.{none-some, same_Some}
 use Rattle.gc_lex.specs.declared.token.Token.{Token}
 use Rattle.gc_grammar.specs.Words.{Point, Lang}
-use Rattle.gc_grammar.specs.Kinds.{kind, among, begins, begins_so}
-use Rattle.gc_grammar.specs.Readers.{Reader, Reading, Got, Stuck, then_read}
-use Rattle.gc_grammar.specs.Right.{Alike, Sound}
-use Rattle.gc_grammar.proofs.KindLaws.{alike_behind}
+use Rattle.gc_parse_readers.specs.Kinds.{kind, among, begins, begins_so}
+use Rattle.gc_parse_readers.specs.Readers.{Reader, Reading, Got, Stuck, then_read}
+use Rattle.gc_parse_readers.specs.Right.{Alike, Sound}
+use Rattle.gc_parse_readers.proofs.KindLaws.{alike_behind}
 
 -- how many tokens of a list are of some kinds, one after another, from its front on
 abbrev pub matched : List (List ℕ) → List Token → ℕ

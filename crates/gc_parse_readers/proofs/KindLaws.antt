@@ -4,8 +4,8 @@ use Rattle.std.proofs.lemmas.Bool.{false≢true, eqb-true, eq-eqb}
 use Rattle.std.proofs.lemmas.List.Folds.{list_any-append}
 use Rattle.std.specs.List.{list_any, position_or_len, prefix_len, range_with_len}
 use Rattle.gc_lex.specs.declared.token.Token.{Token}
-use Rattle.gc_grammar.specs.Kinds.{kind, among, begins, covers, apart}
-use Rattle.gc_grammar.specs.Right.{front, Alike, Outline, Opens}
+use Rattle.gc_parse_readers.specs.Kinds.{kind, among, begins, covers, apart}
+use Rattle.gc_parse_readers.specs.Right.{front, Alike, Outline, Opens}
 
 -- the parts of a test
 pub or_left : (a b : Bool) → (a || b) ≡ false → a ≡ false

@@ -2,13 +2,13 @@
 use Rattle.std.proofs.Common.{◌≡◌, refl, ap, ◌∙◌, ℕ, zero, suc, arith, le_refl, not-suc-le-zero, Bool, true, false, if◌then◌else◌, List, [], ◌∷◌, ◌++◌, append_assoc, length}
 use Rattle.gc_lex.specs.declared.token.Token.{Token}
 use Rattle.gc_grammar.specs.Words.{Point, Lang, this, that, many, ◌⋅◌, ◌∣◌}
-use Rattle.gc_grammar.specs.Kinds.{kind, among, begins, begins_so, covers, apart}
-use Rattle.gc_grammar.specs.Readers.{Reader, Reading, Got, then_read, in_front, read_both, read_either, read_fork, read_many}
-use Rattle.gc_grammar.specs.Right.{Right, Outline, Opens}
-use Rattle.gc_grammar.proofs.KindLaws.{neither, kept_apart, not_covered, opens_apart}
-use Rattle.gc_grammar.proofs.Forks.{matched_none, Reaches, Firm, reaches_none, reaches_any, reaches_made, reaches_then}
-use Rattle.gc_grammar.proofs.RightFork.{Fronts, Way}
-use Rattle.gc_grammar.proofs.Ways.{begins_so_not, firm_right, firm_then}
+use Rattle.gc_parse_readers.specs.Kinds.{kind, among, begins, begins_so, covers, apart}
+use Rattle.gc_parse_readers.specs.Readers.{Reader, Reading, Got, then_read, in_front, read_both, read_either, read_fork, read_many}
+use Rattle.gc_parse_readers.specs.Right.{Right, Outline, Opens}
+use Rattle.gc_parse_readers.proofs.KindLaws.{neither, kept_apart, not_covered, opens_apart}
+use Rattle.gc_parse_readers.proofs.Forks.{matched_none, Reaches, Firm, reaches_none, reaches_any, reaches_made, reaches_then}
+use Rattle.gc_parse_readers.proofs.RightFork.{Fronts, Way}
+use Rattle.gc_parse_readers.proofs.Ways.{begins_so_not, firm_right, firm_then}
 
 -- a word of either
 fronts_either : {A : Type 0} (sets : List (List ℕ)) (does : Bool) (L M : Lang A) → Fronts sets does L → Fronts sets does M → Fronts sets does (L ∣ M)

@@ -3,10 +3,10 @@ use Rattle.std.proofs.Common.{◌≡◌, refl, sym, ap, ◌∙◌, ℕ, ◌<◌,
 use Rattle.std.proofs.lemmas.Option.{none-some}
 use Rattle.gc_lex.specs.declared.token.Token.{Token}
 use Rattle.gc_grammar.specs.Words.{Point, Lang, this, that, ◌∣◌, optional}
-use Rattle.gc_grammar.specs.Kinds.{kind, begins, covers, apart}
-use Rattle.gc_grammar.specs.Readers.{Reader, Reading, Got, Stuck, then_read, read_either, read_optional}
-use Rattle.gc_grammar.specs.Right.{front, Alike, Sound, Right, Outline, Opens, either_of, optional_of}
-use Rattle.gc_grammar.proofs.KindLaws.{or_true, among_left, among_right, begins_neither_left, begins_neither_right, begins_alike, alike_behind, not_covered, opens_covered, opens_apart}
+use Rattle.gc_parse_readers.specs.Kinds.{kind, begins, covers, apart}
+use Rattle.gc_parse_readers.specs.Readers.{Reader, Reading, Got, Stuck, then_read, read_either, read_optional}
+use Rattle.gc_parse_readers.specs.Right.{front, Alike, Sound, Right, Outline, Opens, either_of, optional_of}
+use Rattle.gc_parse_readers.proofs.KindLaws.{or_true, among_left, among_right, begins_neither_left, begins_neither_right, begins_alike, alike_behind, not_covered, opens_covered, opens_apart}
 
 -- what opens as one of two outlines
 pub left_opens : (o p : Outline) (ts : List Token) → Opens o ts → Opens (either_of o p) ts

@@ -3,8 +3,8 @@
 use Rattle.std.specs.Prelude.{◌≡◌, ℕ, ◌+◌, ◌<◌, Bool, true, false, ◌&&◌, ◌||◌, List, [], ◌∷◌, ◌++◌, length, Option, Some, None, if◌then◌else◌}
 use Rattle.gc_lex.specs.declared.token.Token.{Token}
 use Rattle.gc_grammar.specs.Words.{Point, Lang}
-use Rattle.gc_grammar.specs.Kinds.{kind, among, begins}
-use Rattle.gc_grammar.specs.Readers.{Reader, Reading, Got, Stuck}
+use Rattle.gc_parse_readers.specs.Kinds.{kind, among, begins}
+use Rattle.gc_parse_readers.specs.Readers.{Reader, Reading, Got, Stuck}
 
 -- the first token of a list
 abbrev pub front : List Token → Option Token
