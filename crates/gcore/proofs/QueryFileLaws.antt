@@ -23,6 +23,7 @@ use Rattle.gcore.specs.declared.text_refusal.TextRefusal.{TextRefusal}
 use Rattle.gcore.specs.declared.text_refusal.TextRefusal.TheVariants.{TooDeep, Syntax}
 use Rattle.gcore.proofs.TextPlaces.{places_count, item_there, deep_within}
 use Rattle.gc_parse.proofs.ParsedLaws.{parsed_spelled, parsed_deep, parsed_refused, parsed_spells}
+
 -- what statements ask for
 abbrev asked : List (Tree AStatement) → Result NodeQuery Stop
 asked statements = built (node_query statements)

@@ -34,7 +34,18 @@ pub fn run<F: Folder, S: Sink, L: Ledger>(
 ) -> Result<(), Stop>
     requires graphs { HasGraphs command.now }
     requires room { HoldsText (S.room out.old) (F.files folder.old) (Some command.now) }
-    ensures outcome { Answers (record { command = Some command.now; files = F.files folder.old; faults_before = F.faults folder.old; faults_after = F.faults folder.new; out = record { faults_before = S.faults out.old; faults_after = S.faults out.new; taken_before = S.taken out.old; taken_after = S.taken out.new } }) result }
+    ensures outcome { Answers (record {
+      command = Some command.now;
+      files = F.files folder.old;
+      faults_before = F.faults folder.old;
+      faults_after = F.faults folder.new;
+      out = record {
+        faults_before = S.faults out.old;
+        faults_after = S.faults out.new;
+        taken_before = S.taken out.old;
+        taken_after = S.taken out.new;
+      };
+    }) result }
     ensures kept { F.files folder.new ≡ F.files folder.old }
 {
     match command {
@@ -68,7 +79,18 @@ fn run_query<F: Folder, S: Sink, L: Ledger>(
 ) -> Result<(), Stop>
     requires graphs { are_graphs pairs.now ≡ true }
     requires room { HoldsText (S.room out.old) (F.files folder.old) (Some (Run query.now pairs.now)) }
-    ensures outcome { Answers (record { command = Some (Run query.now pairs.now); files = F.files folder.old; faults_before = F.faults folder.old; faults_after = F.faults folder.new; out = record { faults_before = S.faults out.old; faults_after = S.faults out.new; taken_before = S.taken out.old; taken_after = S.taken out.new } }) result }
+    ensures outcome { Answers (record {
+      command = Some (Run query.now pairs.now);
+      files = F.files folder.old;
+      faults_before = F.faults folder.old;
+      faults_after = F.faults folder.new;
+      out = record {
+        faults_before = S.faults out.old;
+        faults_after = S.faults out.new;
+        taken_before = S.taken out.old;
+        taken_after = S.taken out.new;
+      };
+    }) result }
     ensures kept { F.files folder.new ≡ F.files folder.old }
 {
     let catalog = read_graphs(alloc, folder, pairs)?;
@@ -90,7 +112,8 @@ fn write_answer<S: Sink, L: Ledger>(
     steps: &mut Steps<L>,
 ) -> Result<(), Stop>
     requires { HoldsAnswer (S.room out.old) names.now graphs.now (node_query (file_trees file.now)) }
-    ensures { WritesAnswer names.now graphs.now (node_query (file_trees file.now)) (record { faults_before = S.faults out.old; faults_after = S.faults out.new; taken_before = S.taken out.old; taken_after = S.taken out.new }) result }
+    ensures { WritesAnswer names.now graphs.now (node_query (file_trees file.now))
+        (record { faults_before = S.faults out.old; faults_after = S.faults out.new; taken_before = S.taken out.old; taken_after = S.taken out.new }) result }
 {
     match answer(alloc, file, names, graphs, steps) {
         Ok(Some(graph)) => write_graph(alloc, &graph, out, steps),
@@ -107,7 +130,12 @@ fn write_graph<S: Sink, L: Ledger>(
     steps: &mut Steps<L>,
 ) -> Result<(), Stop>
     requires { HasRoom (S.room out.old) (length (printed graph.now)) }
-    ensures { WritesText (record { faults_before = S.faults out.old; faults_after = S.faults out.new; taken_before = S.taken out.old; taken_after = S.taken out.new }) (printed graph.now) result }
+    ensures { WritesText (record {
+      faults_before = S.faults out.old;
+      faults_after = S.faults out.new;
+      taken_before = S.taken out.old;
+      taken_after = S.taken out.new;
+    }) (printed graph.now) result }
 {
     match print_graph(alloc, graph, steps) {
         Ok(text) => write_text(out, text.as_slice()),
@@ -130,7 +158,12 @@ fn print_graph<L: Ledger>(
 
 fn write_text<S: Sink>(out: &mut S, text: &[u8]) -> Result<(), Stop>
     requires { HasRoom (S.room out.old) (length text.now) }
-    ensures { WritesText (record { faults_before = S.faults out.old; faults_after = S.faults out.new; taken_before = S.taken out.old; taken_after = S.taken out.new }) text.now result }
+    ensures { WritesText (record {
+      faults_before = S.faults out.old;
+      faults_after = S.faults out.new;
+      taken_before = S.taken out.old;
+      taken_after = S.taken out.new;
+    }) text.now result }
 {
     match write_whole(out, text) {
         Ok(()) => Ok(()),

@@ -23,7 +23,8 @@ pub fn read_graphs<F: Folder>(
     pairs: &[Pair],
 ) -> Result<Catalog, Stop>
     requires { names_differ pairs.now ≡ true }
-    ensures outcome { ReadsGraphs (record { files = F.files folder.old; faults_before = F.faults folder.old; faults_after = F.faults folder.new }) pairs.now result }
+    ensures outcome { ReadsGraphs (record { files = F.files folder.old; faults_before = F.faults folder.old; faults_after = F.faults folder.new })
+        pairs.now result }
     ensures later { F.faults folder.old ≤ F.faults folder.new }
     ensures kept { F.files folder.new ≡ F.files folder.old }
 {

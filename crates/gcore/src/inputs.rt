@@ -26,7 +26,8 @@ pub fn read_graph<F: Folder>(
     name: &Str,
     seen: &Coherence,
 ) -> Result<Graph, Stop>
-    ensures outcome { ReadsGraph (record { files = F.files folder.old; faults_before = F.faults folder.old; faults_after = F.faults folder.new }) name.now (λ files. graph_due files seen.now name.now) result }
+    ensures outcome { ReadsGraph (record { files = F.files folder.old; faults_before = F.faults folder.old; faults_after = F.faults folder.new })
+        name.now (λ files. graph_due files seen.now name.now) result }
     ensures agrees { IfOk result (λ g. graph_agrees seen.now g ≡ true) }
     ensures later { F.faults folder.old ≤ F.faults folder.new }
     ensures kept { F.files folder.new ≡ F.files folder.old }
@@ -54,7 +55,8 @@ pub fn read_query<F: Folder>(
     name: &Str,
     graphs: &NameList,
 ) -> Result<Checked, Stop>
-    ensures outcome { ReadsQuery (record { files = F.files folder.old; faults_before = F.faults folder.old; faults_after = F.faults folder.new }) name.now (λ files. statements_due graphs.now files name.now) result }
+    ensures outcome { ReadsQuery (record { files = F.files folder.old; faults_before = F.faults folder.old; faults_after = F.faults folder.new })
+        name.now (λ files. statements_due graphs.now files name.now) result }
     ensures later { F.faults folder.old ≤ F.faults folder.new }
     ensures kept { F.files folder.new ≡ F.files folder.old }
 {
@@ -69,7 +71,8 @@ fn read_file<F: Folder>(
     name: &Str,
     limit: u64,
 ) -> Result<Bytes, Stop>
-    ensures outcome { Reads (record { files = F.files folder.old; faults_before = F.faults folder.old; faults_after = F.faults folder.new }) name.now (λ files. file_due files name.now limit) result }
+    ensures outcome { Reads (record { files = F.files folder.old; faults_before = F.faults folder.old; faults_after = F.faults folder.new }) name.now
+        (λ files. file_due files name.now limit) result }
     ensures later { F.faults folder.old ≤ F.faults folder.new }
     ensures kept { F.files folder.new ≡ F.files folder.old }
 {

@@ -19,9 +19,18 @@ ghost use Rattle.gcore.specs.declared.text_refusal.TextRefusal.TheVariants.{TooD
 /// first and where, exactly there; where the brackets are too deep; or a token up to which no list of
 /// tokens spells a file.
 pub fn a_query_file_asks_what_its_tokens_spell()
-    ensures spelled { (graphs : List (List ℕ)) (text : List ℕ) (list : TokenList) (statements : List (Tree AStatement)) → lexed text ≡ Ok list → IsDepthFault list.tokens None → SpellsFile list.tokens statements → first_breach graphs (row statements) ≡ None → query_of graphs text ≡ built (node_query statements) }
-    ensures broken { (graphs : List (List ℕ)) (text : List ℕ) (list : TokenList) (statements : List (Tree AStatement)) (breach : Breach) → lexed text ≡ Ok list → IsDepthFault list.tokens None → SpellsFile list.tokens statements → first_breach graphs (row statements) ≡ Some breach → query_of graphs text ≡ Err (Sorts breach.rule (breach_place list.places breach)) }
-    ensures told { (graphs : List (List ℕ)) (text : List ℕ) (rule : SortRule) (place : Place) → query_of graphs text ≡ Err (Sorts rule place) → (list : TokenList) × (statements : List (Tree AStatement)) × (breach : Breach) × (lexed text ≡ Ok list) × IsDepthFault list.tokens None × SpellsFile list.tokens statements × (first_breach graphs (row statements) ≡ Some breach) × (rule ≡ breach.rule) × (place ≡ breach_place list.places breach) }
-    ensures deep { (graphs : List (List ℕ)) (text : List ℕ) (place : Place) → query_of graphs text ≡ Err (Text (TooDeep place)) → (list : TokenList) × (k : ℕ) × (lexed text ≡ Ok list) × (slice_get list.places k ≡ Some place) × IsDepthFault list.tokens (Some k) }
-    ensures refused { (graphs : List (List ℕ)) (text : List ℕ) (place : Place) → query_of graphs text ≡ Err (Text (Syntax place)) → (list : TokenList) × (k : ℕ) × (lexed text ≡ Ok list) × (slice_get list.places k ≡ Some place) × IsRefusedAt SpellsFile list.tokens k }
+    ensures spelled { (graphs : List (List ℕ)) (text : List ℕ) (list : TokenList) (statements : List (Tree AStatement)) → lexed text ≡ Ok list
+        → IsDepthFault list.tokens None → SpellsFile list.tokens statements → first_breach graphs (row statements) ≡ None → query_of graphs text
+        ≡ built (node_query statements) }
+    ensures broken { (graphs : List (List ℕ)) (text : List ℕ) (list : TokenList) (statements : List (Tree AStatement)) (breach : Breach) → lexed text
+        ≡ Ok list → IsDepthFault list.tokens None → SpellsFile list.tokens statements → first_breach graphs (row statements) ≡ Some breach
+        → query_of graphs text ≡ Err (Sorts breach.rule (breach_place list.places breach)) }
+    ensures told { (graphs : List (List ℕ)) (text : List ℕ) (rule : SortRule) (place : Place) → query_of graphs text ≡ Err (Sorts rule place) →
+        (list : TokenList) × (statements : List (Tree AStatement)) × (breach : Breach) × (lexed text ≡ Ok list) × IsDepthFault list.tokens None
+        × SpellsFile list.tokens statements × (first_breach graphs (row statements) ≡ Some breach) × (rule ≡ breach.rule) ×
+        (place ≡ breach_place list.places breach) }
+    ensures deep { (graphs : List (List ℕ)) (text : List ℕ) (place : Place) → query_of graphs text ≡ Err (Text (TooDeep place)) → (list : TokenList) ×
+        (k : ℕ) × (lexed text ≡ Ok list) × (slice_get list.places k ≡ Some place) × IsDepthFault list.tokens (Some k) }
+    ensures refused { (graphs : List (List ℕ)) (text : List ℕ) (place : Place) → query_of graphs text ≡ Err (Text (Syntax place)) → (list : TokenList)
+        × (k : ℕ) × (lexed text ≡ Ok list) × (slice_get list.places k ≡ Some place) × IsRefusedAt SpellsFile list.tokens k }
 {}

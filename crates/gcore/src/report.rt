@@ -16,7 +16,12 @@ use itoa::Buffer;
 /// Tells a sink the line of a stop. It takes no memory, and a failure of the sink changes nothing else.
 pub fn tell<T: Sink>(stop: &Stop, err: &mut T)
     requires { HasRoom (T.room err.old) (length (line_of stop.now)) }
-    ensures { Tells (record { faults_before = T.faults err.old; faults_after = T.faults err.new; taken_before = T.taken err.old; taken_after = T.taken err.new }) (line_of stop.now) }
+    ensures { Tells (record {
+      faults_before = T.faults err.old;
+      faults_after = T.faults err.new;
+      taken_before = T.taken err.old;
+      taken_after = T.taken err.new;
+    }) (line_of stop.now) }
 {
     match stop {
         Stop::Usage => tell_line(err, b"usage", b""),
@@ -34,7 +39,12 @@ pub fn tell<T: Sink>(stop: &Stop, err: &mut T)
 // The line of a message and a file's word, of which the second may be empty.
 fn tell_line<T: Sink>(err: &mut T, message: &[u8], file: &[u8])
     requires { HasRoom (T.room err.old) (length (line (message.now ++ file.now))) }
-    ensures { Tells (record { faults_before = T.faults err.old; faults_after = T.faults err.new; taken_before = T.taken err.old; taken_after = T.taken err.new }) (line (message.now ++ file.now)) }
+    ensures { Tells (record {
+      faults_before = T.faults err.old;
+      faults_after = T.faults err.new;
+      taken_before = T.taken err.old;
+      taken_after = T.taken err.new;
+    }) (line (message.now ++ file.now)) }
 {
     tell_pieces(err, &[b"gcore: ", message, file, b"\n"]);
 }
@@ -42,7 +52,12 @@ fn tell_line<T: Sink>(err: &mut T, message: &[u8], file: &[u8])
 // The line of a graph file that breaks a rule.
 fn tell_refusal<T: Sink>(err: &mut T, refusal: &GraphRefusal, file: &[u8])
     requires { HasRoom (T.room err.old) (length (refusal_line refusal.now file.now)) }
-    ensures { Tells (record { faults_before = T.faults err.old; faults_after = T.faults err.new; taken_before = T.taken err.old; taken_after = T.taken err.new }) (refusal_line refusal.now file.now) }
+    ensures { Tells (record {
+      faults_before = T.faults err.old;
+      faults_after = T.faults err.new;
+      taken_before = T.taken err.old;
+      taken_after = T.taken err.new;
+    }) (refusal_line refusal.now file.now) }
 {
     match refusal {
         GraphRefusal::NotJson => tell_file(err, b"G1 NotJson", file),
@@ -67,7 +82,12 @@ fn tell_refusal<T: Sink>(err: &mut T, refusal: &GraphRefusal, file: &[u8])
 // The line of a rule that the file breaks as a whole.
 fn tell_file<T: Sink>(err: &mut T, rule: &[u8], file: &[u8])
     requires { HasRoom (T.room err.old) (length (line (rule.now ++ (codes " in " ++ file.now)))) }
-    ensures { Tells (record { faults_before = T.faults err.old; faults_after = T.faults err.new; taken_before = T.taken err.old; taken_after = T.taken err.new }) (line (rule.now ++ (codes " in " ++ file.now))) }
+    ensures { Tells (record {
+      faults_before = T.faults err.old;
+      faults_after = T.faults err.new;
+      taken_before = T.taken err.old;
+      taken_after = T.taken err.new;
+    }) (line (rule.now ++ (codes " in " ++ file.now))) }
 {
     tell_pieces(err, &[b"gcore: ", rule, b" in ", file, b"\n"]);
 }
@@ -75,7 +95,12 @@ fn tell_file<T: Sink>(err: &mut T, rule: &[u8], file: &[u8])
 // The line of a rule that is broken at a spot, with a gap and an identity, which may be empty.
 fn tell_spot<T: Sink>(err: &mut T, rule: &[u8], spot: Spot, gap: &[u8], id: &[u8], file: &[u8])
     requires { HasRoom (T.room err.old) (length (spot_line rule.now spot gap.now id.now file.now)) }
-    ensures { Tells (record { faults_before = T.faults err.old; faults_after = T.faults err.new; taken_before = T.taken err.old; taken_after = T.taken err.new }) (spot_line rule.now spot gap.now id.now file.now) }
+    ensures { Tells (record {
+      faults_before = T.faults err.old;
+      faults_after = T.faults err.new;
+      taken_before = T.taken err.old;
+      taken_after = T.taken err.new;
+    }) (spot_line rule.now spot gap.now id.now file.now) }
 {
     match spot.part {
         Part::Whole => {
@@ -101,7 +126,12 @@ fn tell_item<T: Sink>(
     file: &[u8],
 )
     requires { HasRoom (T.room err.old) (length (item_line rule.now list.now index gap.now id.now file.now)) }
-    ensures { Tells (record { faults_before = T.faults err.old; faults_after = T.faults err.new; taken_before = T.taken err.old; taken_after = T.taken err.new }) (item_line rule.now list.now index gap.now id.now file.now) }
+    ensures { Tells (record {
+      faults_before = T.faults err.old;
+      faults_after = T.faults err.new;
+      taken_before = T.taken err.old;
+      taken_after = T.taken err.new;
+    }) (item_line rule.now list.now index gap.now id.now file.now) }
 {
     let mut digits = Buffer::new();
     tell_digits(
@@ -125,7 +155,12 @@ fn tell_digits<T: Sink>(
     file: &[u8],
 )
     requires { HasRoom (T.room err.old) (length (digits_line rule.now list.now index.now gap.now id.now file.now)) }
-    ensures { Tells (record { faults_before = T.faults err.old; faults_after = T.faults err.new; taken_before = T.taken err.old; taken_after = T.taken err.new }) (digits_line rule.now list.now index.now gap.now id.now file.now) }
+    ensures { Tells (record {
+      faults_before = T.faults err.old;
+      faults_after = T.faults err.new;
+      taken_before = T.taken err.old;
+      taken_after = T.taken err.new;
+    }) (digits_line rule.now list.now index.now gap.now id.now file.now) }
 {
     tell_pieces(
         err,
@@ -138,7 +173,12 @@ fn tell_digits<T: Sink>(
 // The line of a query file that is refused.
 fn tell_text<T: Sink>(err: &mut T, refusal: TextRefusal)
     requires { HasRoom (T.room err.old) (length (text_line refusal)) }
-    ensures { Tells (record { faults_before = T.faults err.old; faults_after = T.faults err.new; taken_before = T.taken err.old; taken_after = T.taken err.new }) (text_line refusal) }
+    ensures { Tells (record {
+      faults_before = T.faults err.old;
+      faults_after = T.faults err.new;
+      taken_before = T.taken err.old;
+      taken_after = T.taken err.new;
+    }) (text_line refusal) }
 {
     match refusal {
         TextRefusal::NotUtf8(place) => tell_place(err, b"L1 NotUtf8", place),
@@ -153,7 +193,12 @@ fn tell_text<T: Sink>(err: &mut T, refusal: TextRefusal)
 // The line of a query file that breaks a sort rule.
 fn tell_sorts<T: Sink>(err: &mut T, rule: SortRule, place: Place)
     requires { HasRoom (T.room err.old) (length (sort_line rule place)) }
-    ensures { Tells (record { faults_before = T.faults err.old; faults_after = T.faults err.new; taken_before = T.taken err.old; taken_after = T.taken err.new }) (sort_line rule place) }
+    ensures { Tells (record {
+      faults_before = T.faults err.old;
+      faults_after = T.faults err.new;
+      taken_before = T.taken err.old;
+      taken_after = T.taken err.new;
+    }) (sort_line rule place) }
 {
     tell_place(err, rule_text(rule), place);
 }
@@ -184,7 +229,12 @@ fn rule_text(rule: SortRule) -> &'static [u8]
 // The line of a rule that a query file breaks at a place.
 fn tell_place<T: Sink>(err: &mut T, rule: &[u8], place: Place)
     requires { HasRoom (T.room err.old) (length (place_line rule.now place)) }
-    ensures { Tells (record { faults_before = T.faults err.old; faults_after = T.faults err.new; taken_before = T.taken err.old; taken_after = T.taken err.new }) (place_line rule.now place) }
+    ensures { Tells (record {
+      faults_before = T.faults err.old;
+      faults_after = T.faults err.new;
+      taken_before = T.taken err.old;
+      taken_after = T.taken err.new;
+    }) (place_line rule.now place) }
 {
     let mut line = Buffer::new();
     let mut column = Buffer::new();
@@ -198,14 +248,24 @@ fn tell_place<T: Sink>(err: &mut T, rule: &[u8], place: Place)
 
 fn tell_numbers<T: Sink>(err: &mut T, rule: &[u8], line: &[u8], column: &[u8])
     requires { HasRoom (T.room err.old) (length (numbers_line rule.now line.now column.now)) }
-    ensures { Tells (record { faults_before = T.faults err.old; faults_after = T.faults err.new; taken_before = T.taken err.old; taken_after = T.taken err.new }) (numbers_line rule.now line.now column.now) }
+    ensures { Tells (record {
+      faults_before = T.faults err.old;
+      faults_after = T.faults err.new;
+      taken_before = T.taken err.old;
+      taken_after = T.taken err.new;
+    }) (numbers_line rule.now line.now column.now) }
 {
     tell_pieces(err, &[b"gcore: ", rule, b" ", line, b":", column, b"\n"]);
 }
 
 fn tell_pieces<T: Sink>(err: &mut T, pieces: &[&[u8]])
     requires { HasRoom (T.room err.old) (length (joined pieces.now)) }
-    ensures { Tells (record { faults_before = T.faults err.old; faults_after = T.faults err.new; taken_before = T.taken err.old; taken_after = T.taken err.new }) (joined pieces.now) }
+    ensures { Tells (record {
+      faults_before = T.faults err.old;
+      faults_after = T.faults err.new;
+      taken_before = T.taken err.old;
+      taken_after = T.taken err.new;
+    }) (joined pieces.now) }
 {
     match write_pieces(err, pieces) {
         Ok(()) => {}

@@ -10,7 +10,7 @@ GRAPH VIEW h AS (g); CONSTRUCT (n), h MATCH (n) ON h; h UNION g MINUS k # S1 Unk
 GRAPH VIEW h AS (h) # S1 UnknownGraph 1:18
 CONSTRUCT (n), z MATCH (n) # S1 UnknownGraph 1:16
 CONSTRUCT (n) MATCH (n) ON h # S1 UnknownGraph 1:28
-PATH w = (x)-[]->(y) CONSTRUCT (n) MATCH (n)-/<~w>/->(m) WHERE EXISTS (CONSTRUCT () MATCH (n)-/<~w ~w*>/->(m)); CONSTRUCT (n) MATCH (n)-/<~w>/->(m) # S2 UnknownView 1:140
+PATH w = (x)-[]->(y) CONSTRUCT (n) MATCH (n)-/<~w>/->(m) WHERE EXISTS (CONSTRUCT () MATCH (n)-/<~w>/->(m)); CONSTRUCT (n) MATCH (n)-/<~w>/->(m) # S2 UnknownView 1:136
 CONSTRUCT (n) MATCH (n)-/<~w>/->(m) # S2 UnknownView 1:28
 CONSTRUCT (n) MATCH (n), (k) OPTIONAL (n)-[e]->(m) WHERE k.a = 1 # S3 UnknownName 1:58
 CONSTRUCT (n) MATCH (n) WHERE m.a = 1 OPTIONAL (n)-[e]->(m) # S3 UnknownName 1:31
