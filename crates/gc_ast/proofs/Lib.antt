@@ -1,2 +1,3 @@
+mod Copies
 pub mod ItemTrees
 pub mod NameLemmas

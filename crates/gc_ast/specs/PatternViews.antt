@@ -1,5 +1,5 @@
--- What patterns are as plain trees: by what stands for a name, and by the name table that their names
--- are numbers of.
+-- What patterns are as plain trees: by what stands for a name, by the name table that their names
+-- are numbers of, and by those numbers.
 use Rattle.std.specs.Prelude.{List, map, Option}
 use Rattle.std.specs.Option.{option_map}
 use Rattle.gc_base.specs.declared.place.NameAt.{NameAt}
@@ -75,3 +75,19 @@ located_tree names = located_by (name_of names)
 
 abbrev pub group_term_tree : Names → GroupTerm → Tree AGroupTerm
 group_term_tree names = group_term_by (name_of names)
+
+-- the same by the numbers of the names
+abbrev pub numbered_element : Element → TreeOf Sym AnElement
+numbered_element = element_by (λ sym. sym)
+
+abbrev pub numbered_body : PathBody → TreeOf Sym APathBody
+numbered_body = body_by (λ sym. sym)
+
+abbrev pub numbered_pattern : Pattern → TreeOf Sym APattern
+numbered_pattern = pattern_by (λ sym. sym)
+
+abbrev pub numbered_located : Located → TreeOf Sym ALocated
+numbered_located = located_by (λ sym. sym)
+
+abbrev pub numbered_group_term : GroupTerm → TreeOf Sym AGroupTerm
+numbered_group_term = group_term_by (λ sym. sym)

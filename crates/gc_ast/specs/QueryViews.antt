@@ -1,5 +1,5 @@
--- What queries are as plain trees: by what stands for a name, and by the name table that their names are
--- numbers of.
+-- What queries are as plain trees: by what stands for a name, by the name table that their names are
+-- numbers of, and by those numbers.
 use Rattle.std.specs.Prelude.{List, map}
 use Rattle.gc_base.specs.declared.place.Sym.{Sym}
 use Rattle.gc_expr.specs.Trees.{renamed}
@@ -214,6 +214,46 @@ optional_tree names = optional_by (name_of names)
 abbrev pub query_tree : Names → Query → Tree AQuery
 query_tree names = query_by (name_of names)
 
+-- the same by the numbers of the names
+abbrev pub numbered_change : Change → TreeOf Sym AChange
+numbered_change = change_by (λ sym. sym)
+
+abbrev pub numbered_part : ConstructPart → TreeOf Sym AConstructPart
+numbered_part = part_by (λ sym. sym)
+
+abbrev pub numbered_item : Item → TreeOf Sym AnItem
+numbered_item = item_by (λ sym. sym)
+
+abbrev pub numbered_head : Head → TreeOf Sym AHead
+numbered_head = head_by (λ sym. sym)
+
+abbrev pub numbered_term : Term → TreeOf Sym ATerm
+numbered_term = term_by (λ sym. sym)
+
+abbrev pub numbered_assign : Assign → TreeOf Sym AnAssign
+numbered_assign = assign_by (λ sym. sym)
+
+abbrev pub numbered_new_element : NewElement → TreeOf Sym ANewElement
+numbered_new_element = new_element_by (λ sym. sym)
+
+abbrev pub numbered_basic : Basic → TreeOf Sym ABasic
+numbered_basic = basic_by (λ sym. sym)
+
+abbrev pub numbered_formula : Formula → TreeOf Sym AFormula
+numbered_formula = formula_by (λ sym. sym)
+
+abbrev pub numbered_block : MatchBlock → TreeOf Sym ABlock
+numbered_block = block_by (λ sym. sym)
+
+abbrev pub numbered_next_term : NextTerm → TreeOf Sym ANextTerm
+numbered_next_term = next_term_by (λ sym. sym)
+
+abbrev pub numbered_optional : OptionalBlock → TreeOf Sym AnOptional
+numbered_optional = optional_by (λ sym. sym)
+
+abbrev pub numbered_query : Query → TreeOf Sym AQuery
+numbered_query = query_by (λ sym. sym)
+
 -- the tree of a statement
 abbrev pub statement_by : {N : Type 0} → (Sym → N) → Statement → TreeOf N AStatement
 statement_by f (statement.View g q) = tree.View (named_by f g) (query_by f q)
@@ -221,6 +261,9 @@ statement_by f (statement.Ask q) = tree.Ask (query_by f q)
 
 abbrev pub statement_tree : Names → Statement → Tree AStatement
 statement_tree names = statement_by (name_of names)
+
+abbrev pub numbered_statement : Statement → TreeOf Sym AStatement
+numbered_statement = statement_by (λ sym. sym)
 
 -- the trees of a file's statements
 abbrev pub file_trees : File → List (Tree AStatement)

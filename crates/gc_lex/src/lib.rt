@@ -20,4 +20,3 @@ pub use lexer::lex;
 pub use refusal::LexRefusal;
 pub use token::{Mark, Token};
 pub use tokens::Tokens;
-
