@@ -13,7 +13,7 @@ use gc_ast::{LocatedList, PathBody, Pattern, PatternList};
 use gc_base::{Duplicate, Sym};
 
 /// Where a part of a chain stands: its graph, and the nodes beside it, so far as there are any.
-#[derive(Clone, Copy, Debug)]
+#[derive(Clone, Copy)]
 struct Spot {
     graph: u32,
     left: Option<Sym>,

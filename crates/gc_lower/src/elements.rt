@@ -11,7 +11,7 @@ use gc_base::{Direction, Duplicate, Memory, Sym};
 use gc_ppg::Kind;
 
 /// Where a link stands: its graph, and the nodes at its left and at its right.
-#[derive(Clone, Copy, Debug)]
+#[derive(Clone, Copy)]
 pub(crate) struct Link {
     pub graph: u32,
     pub left: Sym,
