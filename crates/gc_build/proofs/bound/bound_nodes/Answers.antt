@@ -15,7 +15,7 @@ returns g c =
     let vars = c.args.vars.now in
     IfOk-weaker _ _ _ (λ graph is.
     bound_once b vars graph (graph_of_bound b rs c.in_ok-readings.ensures.each
-    (each_once vars) (c.in_ok-readings.ensures.vars ∙ (c.deref.ensures.value ∙ c.in_ok-once.ensures)) c.in_ok-all_ids.field-0.items c.in_ok-ids.ids.items
-    (c.in_ok-all_ids.ensures ∙ ap (λ rs. flat_map (λ r. r.ids) rs) c.deref-2.ensures.value) c.in_ok-ids.ensures.ascend c.in_ok-ids.ensures.exact
-    graph (is ∙ (λ j. graph_with (map (told_by (c.deref-4.ensures.value j)) (c.deref-3.ensures.value j))))))
+    (each_once vars) (c.in_ok-readings.ensures.vars ∙ (c.as_slice.ensures ∙ c.in_ok-once.ensures)) c.in_ok-all_ids.field-0.items c.in_ok-ids.ids.items
+    (c.in_ok-all_ids.ensures ∙ ap (λ rs. flat_map (λ r. r.ids) rs) c.deref.ensures.value) c.in_ok-ids.ensures.ascend c.in_ok-ids.ensures.exact
+    graph (is ∙ (λ j. graph_with (map (told_by (c.deref-3.ensures.value j)) (c.deref-2.ensures.value j))))))
     c.told_graph.ensures
