@@ -1,9 +1,10 @@
 pub mod Above
 pub mod Absorbed
+pub mod Filters
 pub mod FromNothing
 pub mod Lookups
 pub mod Members
 pub mod Once
-pub mod Sorted
+pub mod Outcomes
 pub mod Told
 pub mod Unions

@@ -8,11 +8,10 @@ use Rattle.std.proofs.lemmas.List.Sums.{fold-append}
 use Rattle.gc_base.proofs.Search.{AllByRecursion-weaker}
 use Rattle.gc_base.proofs.SetLaws.{AllByRecursion-append}
 use Rattle.gc_base.specs.declared.place.Sym.{Sym}
-use Rattle.gc_rows.specs.Rows.{lists}
+use Rattle.gc_rows.specs.Rows.{each_once, lists, with_variable}
 use Rattle.gc_rows.proofs.Members.{contains_here, each_member, from_flat_map, of_member, to_flat_map}
 use Rattle.gc_spec.specs.PropertyGraph.{Node, PropertyGraph}
 use Rattle.gc_build.specs.BoundNodes.{Bindings, IsOfBoundNodes, bare, binds, ids_of, read_node, united_if, with_reading}
-use Rattle.gc_build.specs.Variables.{each_once, with_variable}
 use Rattle.gc_build.proofs.Absorbed.{HasSaid, IsSound, bare_sound, said_stays, united_again, united_says, united_sound}
 use Rattle.gc_build.proofs.Told.{one_told}
 

@@ -10,7 +10,7 @@ use Rattle.gc_spec.specs.PropertyGraph.{Node, PropertyGraph}
 use Rattle.gc_build.specs.BoundNodes.{Bindings, IsOfBoundNodes, ids_of, binds, node_in, read_node, united_if, with_reading, described, bare}
 use Rattle.gc_build.specs.Readings.{Reading, IsReading, told, with_told, told_by, graph_with}
 use Rattle.gc_build.proofs.Above.{AreBelow, before_next, ids_kept}
-use Rattle.gc_build.proofs.Members.{same_test}
+use Rattle.gc_rows.proofs.Members.{same_test}
 
 told_keeps_id : (i : ℕ) (rs : List Reading) (a : Node) → (fold (with_told i) a rs).id ≡ a.id
 told_keeps_id i [] a = refl

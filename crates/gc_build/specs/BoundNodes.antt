@@ -11,7 +11,7 @@ use Rattle.gc_rows.specs.declared.datum.Datum.TheVariants as datum
 use Rattle.gc_rows.specs.declared.row.Binding.{Binding}
 use Rattle.gc_spec.specs.PropertyGraph.{PropertyGraph, Node}
 use Rattle.gc_sets.specs.Descriptions.{united_node}
-use Rattle.gc_values.specs.Contexts.{own_graph}
+use Rattle.gc_values.specs.Contexts.{own_among}
 use Rattle.gc_values.specs.declared.reads.ReadUse.{ReadUse}
 
 -- the rows of a table, the graphs by number, and the numbers of those in which variables are read
@@ -40,7 +40,7 @@ node_in (Some g) i = find (λ n. n.id == i) g.nodes
 
 -- the node of an identity in the graph in which a variable is read
 abbrev pub read_node : Bindings → Sym → ℕ → Option Node
-read_node b x i = node_in (own_graph (record { row = []; reads = b.reads; graphs = b.graphs; made = [] }) x) i
+read_node b x i = node_in (own_among b.reads b.graphs x) i
 
 -- a node, with what another says of it beside
 abbrev pub united_if : Node → Option Node → Node

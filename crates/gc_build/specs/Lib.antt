@@ -1,3 +1,7 @@
 pub mod BoundNodes
+pub mod Claimed
+pub mod Constructed
+pub mod Kept
+pub mod Makings
 pub mod Readings
-pub mod Variables
+pub mod Walks

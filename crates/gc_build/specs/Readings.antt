@@ -3,8 +3,7 @@ use Rattle.std.specs.Prelude.{◌≡◌, ℕ, List, [], fold, Option, None, if�
 use Rattle.gc_base.specs.declared.place.Sym.{Sym}
 use Rattle.gc_rows.specs.Tables.{HasExactly}
 use Rattle.gc_spec.specs.PropertyGraph.{PropertyGraph, Node, is_among}
-use Rattle.gc_values.specs.Contexts.{own_graph}
-use Rattle.gc_values.specs.declared.reads.ReadUse.{ReadUse}
+use Rattle.gc_values.specs.Contexts.{own_among}
 use Rattle.gc_build.specs.BoundNodes.{Bindings, ids_of, node_in, united_if, bare}
 
 -- a variable, the identities of its nodes, and the graph in which it is read
@@ -13,14 +12,10 @@ pub record Reading : Type 0 where
   pub ids : List ℕ
   pub graph : Option PropertyGraph
 
--- the graph in which a variable is read
-abbrev pub read_graph : List ReadUse → List PropertyGraph → Sym → Option PropertyGraph
-read_graph reads graphs x = own_graph (record { row = []; reads = reads; graphs = graphs; made = [] }) x
-
 -- a reading has exactly the identities of its variable, and its graph
 pub record IsReading (b : Bindings) (r : Reading) : Type 0 where
   pub exact : HasExactly (ids_of b r.var) r.ids
-  pub graph : r.graph ≡ read_graph b.reads b.graphs r.var
+  pub graph : r.graph ≡ own_among b.reads b.graphs r.var
 
 -- what a reading says of an identity, if it is among its own
 abbrev pub told : Reading → ℕ → Option Node

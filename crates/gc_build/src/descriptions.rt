@@ -1,17 +1,18 @@
-ghost use Rattle.std.specs.Prelude.{◌≡◌, ◌==◌, map, IfOk, OnOk};
-ghost use Rattle.std.specs.List.{AllByRecursion, find};
+ghost use Rattle.std.specs.Prelude.{◌≡◌, map, IfOk, OnOk};
+ghost use Rattle.std.specs.List.{AllByRecursion};
 ghost use Rattle.std.specs.Option.{option_copied};
 ghost use Rattle.gc_spec.specs.PropertyGraph.{is_among};
 ghost use Rattle.gc_sets.specs.Descriptions.{united_labels, united_node, united_properties};
 ghost use Rattle.gc_build.specs.BoundNodes.{Bindings, node_in};
-ghost use Rattle.gc_build.specs.Readings.{IsReading, read_graph, told, told_by, with_told};
+ghost use Rattle.gc_build.specs.Readings.{IsReading, told, told_by, with_told};
 
-use crate::ids::{ascending, listed_ids};
+use crate::ids::listed_ids;
+use crate::listed::{ascending, is_listed};
 use gc_base::{Duplicate, Id, LabelSet, Memory, Properties, Steps, Sym};
 use gc_ppg::{Graph, GraphList, NodeInfo};
 use gc_rows::Row;
 use gc_sets::{unite_labels, unite_properties};
-use gc_values::{ReadUse, Reads};
+use gc_values::{Reads, own_graph};
 use std::alloc::Global;
 use std::marker::Model;
 use std::sync::ledger::Ledger;
@@ -60,7 +61,7 @@ impl Reading<'_> {
     fn has(&self, id: Id) -> bool
         ensures { result ≡ is_among self.now.ids id }
     {
-        self.ids.binary_search(&id).is_ok()
+        is_listed(&self.ids, id)
     }
 
     // Adds to a node what the graph says of it.
@@ -131,25 +132,8 @@ fn reading_of<'a>(
         IfOk result (IsReading b) }
 {
     let ids = ascending(listed_ids(alloc, rows, var)?)?;
-    let graph = graph_of(var, reads, graphs);
+    let graph = own_graph(reads, graphs, var);
     Ok(Reading { var, ids, graph })
-}
-
-// The graph in which a variable is read, if it has one.
-fn graph_of<'a>(var: Sym, reads: &Reads, graphs: &'a GraphList) -> Option<&'a Graph>
-    ensures { option_copied result ≡ read_graph reads.now graphs.now var }
-{
-    match read_use(var, reads) {
-        Some(read) => graphs.as_slice().get(read.own as usize),
-        None => None,
-    }
-}
-
-// The numbers of a variable's graphs.
-fn read_use(var: Sym, reads: &Reads) -> Option<&ReadUse>
-    ensures { option_copied result ≡ find (λ read. read.var.0 == var.0) reads.now }
-{
-    reads.as_slice().iter().find(|read| read.var.0 == var.0)
 }
 
 // The node of an identity in a graph, if there is one.

@@ -1,11 +1,8 @@
 ghost use Rattle.std.specs.Prelude.{◌≡◌, ◌++◌, IfOk, OnOk};
 ghost use Rattle.std.specs.List.{flat_map};
 ghost use Rattle.std.specs.Option.{option_copied};
-ghost use Rattle.std.specs.Ordering.{nat_cmp};
-ghost use Rattle.gc_base.specs.Ascending.{Ascends};
 ghost use Rattle.gc_build.specs.BoundNodes.{node_ids};
 ghost use Rattle.gc_rows.specs.Rows.{datum_at};
-ghost use Rattle.gc_rows.specs.Tables.{HasExactly};
 
 use gc_base::{Id, Memory, Sym};
 use gc_rows::{Datum, Row};
@@ -19,16 +16,6 @@ pub(crate) fn listed_ids(alloc: Global, rows: &[Row], var: Sym) -> Result<Vec<Id
     for row in rows {
         push_node(&mut ids, row.get(var))?;
     }
-    Ok(ids)
-}
-
-/// The same identities, ascending, each once.
-pub(crate) fn ascending(mut ids: Vec<Id>) -> Result<Vec<Id>, Memory>
-    ensures ascend { IfOk result (λ sorted. Ascends nat_cmp sorted.items) }
-    ensures exact { IfOk result (λ sorted. HasExactly ids.items sorted.items) }
-{
-    ids.sort()?;
-    ids.dedup();
     Ok(ids)
 }
 

@@ -8,14 +8,10 @@ mod assigned;
 mod changes;
 mod described;
 mod describing;
-#[cfg(test)]
-mod example;
 mod fault;
 mod faults;
 mod givens;
 mod starts;
-#[cfg(test)]
-mod tests;
 
 pub use described::{Described, DescribedList, Description, DescriptionList};
 pub use describing::describe;

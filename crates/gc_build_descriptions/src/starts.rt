@@ -1,11 +1,8 @@
-ghost use Rattle.std.specs.Prelude.{◌≡◌, ◌==◌, [], slice_get, Some, IfOk};
-ghost use Rattle.std.specs.List.{find};
+ghost use Rattle.std.specs.Prelude.{◌≡◌, slice_get, Some, IfOk};
 ghost use Rattle.std.specs.Option.{option_copied, unwrap_or};
 ghost use Rattle.gc_build_descriptions.specs.Assigned.{row_at};
 ghost use Rattle.gc_build_descriptions.specs.Described.{blank, seen_or_blank, start_of};
-ghost use Rattle.gc_build_numbers.specs.Settings.{on_row};
 ghost use Rattle.gc_rows.specs.Rows.{datum_at};
-ghost use Rattle.gc_values.specs.Contexts.{own_graph};
 ghost use Rattle.gc_values.specs.Descriptions.{node_description, edge_description, path_description, described_in};
 
 use crate::assigned::row_at;
@@ -14,7 +11,7 @@ use gc_base::{Duplicate, Id, LabelSet, Memory, Properties, Steps, Sym};
 use gc_build_numbers::Setting;
 use gc_ppg::Graph;
 use gc_rows::Datum;
-use gc_values::ReadUse;
+use gc_values::own_graph;
 use std::alloc::Global;
 use std::sync::ledger::Ledger;
 
@@ -32,7 +29,7 @@ pub(crate) fn start_of<L: Ledger>(
         None => Ok(blank(setting.alloc)),
         Some(var) => {
             let datum = datum_at(setting, var, first(places));
-            described_in(setting.alloc, own_graph(setting, var), datum, steps)
+            described_in(setting.alloc, own_graph(setting.reads, setting.graphs, var), datum, steps)
         }
     }
 }
@@ -65,28 +62,6 @@ fn datum_at<'a>(setting: &'a Setting<'_>, var: Sym, place: u64) -> Option<&'a Da
         Some(row) => row.get(var),
         None => None,
     }
-}
-
-// The graph in which a variable's own labels and properties are read, if it has one. It is the same
-// on each row.
-fn own_graph<'a>(setting: &'a Setting<'_>, var: Sym) -> Option<&'a Graph>
-    ensures { option_copied result ≡ own_graph (on_row setting.now []) var }
-{
-    match read_use(setting, var) {
-        Some(read) => setting.graphs.as_slice().get(read.own as usize),
-        None => None,
-    }
-}
-
-// The numbers of a variable's graphs.
-fn read_use<'a>(setting: &'a Setting<'_>, var: Sym) -> Option<&'a ReadUse>
-    ensures { option_copied result ≡ find (λ read. read.var.0 == var.0) setting.now.reads }
-{
-    setting
-        .reads
-        .as_slice()
-        .iter()
-        .find(|read| read.var.0 == var.0)
 }
 
 // The description of what a variable stands for, in a graph.

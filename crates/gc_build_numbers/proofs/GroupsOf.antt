@@ -13,7 +13,7 @@ use Rattle.gc_build_recipe.specs.declared.variable.Grouping.TheVariants as by
 use Rattle.gc_build_numbers.specs.Keys.{distinct_keys, groups_of}
 use Rattle.gc_build_numbers.specs.Numbers.{bound_number, elements_by, numbered_from}
 use Rattle.gc_build_numbers.specs.declared.numbered.Element.{Element}
-use Rattle.gc_build_numbers.proofs.Distinct.{is_distinct}
+use Rattle.gc_rows.proofs.AscendingLists.{is_distinct}
 
 -- each group is told by its key
 from_keys : (keys : List (Option Key)) (gs : List Group) → AllByRecursion (λ g. g.rows ≡ rows_with g.key keys) gs

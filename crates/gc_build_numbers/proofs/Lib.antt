@@ -1,3 +1,2 @@
-pub mod Distinct
 pub mod GroupsOf
 pub mod TermLaws

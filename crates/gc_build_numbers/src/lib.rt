@@ -10,8 +10,6 @@ mod numbered;
 mod numbering;
 mod setting;
 mod terms;
-#[cfg(test)]
-mod tests;
 
 pub use numbered::{Element, Numbered, Numbering};
 pub use numbering::number;

@@ -1,4 +1,3 @@
 pub mod CollectLaws
 pub mod GroupLaws
 pub mod KeyOrder
-pub mod SortLaws

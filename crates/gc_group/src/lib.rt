@@ -9,8 +9,6 @@ mod grouping;
 mod held;
 mod key;
 mod listed;
-#[cfg(test)]
-mod tests;
 
 pub use folds::fold;
 pub use grouping::{Group, RowNumbers, groups};

@@ -13,7 +13,7 @@ use gc_ast::{LocatedList, PathBody, Pattern, PatternList};
 use gc_base::{Duplicate, Sym};
 
 /// Where a part of a chain stands: its graph, and the nodes beside it, so far as there are any.
-#[derive(Clone, Copy, Debug)]
+#[derive(Clone, Copy)]
 struct Spot {
     graph: u32,
     left: Option<Sym>,
@@ -26,7 +26,8 @@ pub(crate) fn add_chains(
     naming: &Naming<'_>,
     chains: &LocatedList,
 ) -> Result<(), Stop>
-    ensures { Gives (λ _. atoms.new.items) (both_lists (Some atoms.old.items) (atoms_of naming.now.scope (row (map (located_tree naming.now.names) chains.now)))) result }
+    ensures { Gives (λ _. atoms.new.items)
+        (both_lists (Some atoms.old.items) (atoms_of naming.now.scope (row (map (located_tree naming.now.names) chains.now)))) result }
 {
     for located in chains.as_slice() {
         let graph = naming.graph_of(&located.on)?;
@@ -42,7 +43,8 @@ fn add_chain(
     graph: u32,
     parts: &PatternList,
 ) -> Result<(), Stop>
-    ensures { Gives (λ _. atoms.new.items) (both_lists (Some atoms.old.items) (chain_atoms naming.now.scope graph None (row (map (pattern_tree naming.now.names) parts.now)))) result }
+    ensures { Gives (λ _. atoms.new.items)
+        (both_lists (Some atoms.old.items) (chain_atoms naming.now.scope graph None (row (map (pattern_tree naming.now.names) parts.now)))) result }
 {
     let parts = parts.as_slice();
     let mut left = None;
@@ -61,7 +63,8 @@ fn add_part(
     spot: Spot,
     part: &Pattern,
 ) -> Result<(), Stop>
-    ensures { Gives (λ _. atoms.new.items) (both_lists (Some atoms.old.items) (part_atoms naming.now.scope spot.graph spot.left spot.right (pattern_tree naming.now.names part.now))) result }
+    ensures { Gives (λ _. atoms.new.items)
+        (both_lists (Some atoms.old.items) (part_atoms naming.now.scope spot.graph spot.left spot.right (pattern_tree naming.now.names part.now))) result }
 {
     match part {
         Pattern::Node(element) => {
@@ -79,7 +82,8 @@ fn add_link(
     spot: Spot,
     part: &Pattern,
 ) -> Result<(), Stop>
-    ensures { Gives (λ _. atoms.new.items) (both_lists (Some atoms.old.items) (link_atoms naming.now.scope spot.graph spot.left spot.right (pattern_tree naming.now.names part.now))) result }
+    ensures { Gives (λ _. atoms.new.items)
+        (both_lists (Some atoms.old.items) (link_atoms naming.now.scope spot.graph spot.left spot.right (pattern_tree naming.now.names part.now))) result }
 {
     let Some(left) = spot.left else {
         return Err(Stop::Unlowered);
@@ -109,7 +113,8 @@ fn add_path(
     link: Link,
     body: &PathBody,
 ) -> Result<(), Stop>
-    ensures { Gives (λ _. atoms.new.items) (both_lists (Some atoms.old.items) (path_atoms naming.now.scope link.graph link.left link.right (body_by (name_of naming.now.names) body.now))) result }
+    ensures { Gives (λ _. atoms.new.items)
+        (both_lists (Some atoms.old.items) (path_atoms naming.now.scope link.graph link.left link.right (body_by (name_of naming.now.names) body.now))) result }
 {
     match body {
         PathBody::Stored { name, labels } => {

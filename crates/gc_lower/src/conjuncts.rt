@@ -23,7 +23,8 @@ pub(crate) fn conjuncts_of_where(
     naming: &Naming<'_>,
     filter: &Option<Formula>,
 ) -> Result<ConjunctList, Stop>
-    ensures { Gives (λ list. map (λ c. numbered_expr c.condition) list.items) (where_conjuncts naming.now.scope (maybe (option_map (formula_tree naming.now.names) filter.now))) result }
+    ensures { Gives (λ list. map (λ c. numbered_expr c.condition) list.items)
+        (where_conjuncts naming.now.scope (maybe (option_map (formula_tree naming.now.names) filter.now))) result }
 {
     match filter {
         None => Ok(Vec::new(alloc)),
@@ -37,7 +38,8 @@ fn conjuncts_of_formula(
     naming: &Naming<'_>,
     formula: &Formula,
 ) -> Result<ConjunctList, Stop>
-    ensures { Gives (λ list. map (λ c. numbered_expr c.condition) list.items) (where_conjuncts naming.now.scope (more (formula_tree naming.now.names formula.now) none)) result }
+    ensures { Gives (λ list. map (λ c. numbered_expr c.condition) list.items)
+        (where_conjuncts naming.now.scope (more (formula_tree naming.now.names formula.now) none)) result }
 {
     if !formula.exists.is_empty() {
         return Err(Stop::Unlowered);
@@ -52,7 +54,8 @@ fn conjuncts_of(
     naming: &Naming<'_>,
     condition: &Expr,
 ) -> Result<ConjunctList, Memory>
-    ensures { IfOk result (λ list. map (λ c. numbered_expr c.condition) list.items ≡ conjuncts_of (renamed (variable_in naming.now) (numbered_expr condition.now))) }
+    ensures { IfOk result (λ list. map (λ c. numbered_expr c.condition) list.items
+        ≡ conjuncts_of (renamed (variable_in naming.now) (numbered_expr condition.now))) }
 {
     match &condition.node {
         ExprNode::And(parts) => each(alloc, naming, parts),
@@ -62,7 +65,8 @@ fn conjuncts_of(
 
 // Conditions as conjuncts.
 fn each(alloc: Global, naming: &Naming<'_>, conditions: &[Expr]) -> Result<ConjunctList, Memory>
-    ensures { IfOk result (λ list. map (λ c. numbered_expr c.condition) list.items ≡ map (λ e. renamed (variable_in naming.now) (numbered_expr e)) conditions.now) }
+    ensures { IfOk result (λ list. map (λ c. numbered_expr c.condition) list.items
+        ≡ map (λ e. renamed (variable_in naming.now) (numbered_expr e)) conditions.now) }
 {
     let mut conjuncts = Vec::with_capacity(alloc, conditions.len())?;
     for condition in conditions {

@@ -11,7 +11,7 @@ use gc_base::{Direction, Duplicate, Memory, Sym};
 use gc_ppg::Kind;
 
 /// Where a link stands: its graph, and the nodes at its left and at its right.
-#[derive(Clone, Copy, Debug)]
+#[derive(Clone, Copy)]
 pub(crate) struct Link {
     pub graph: u32,
     pub left: Sym,
@@ -44,7 +44,8 @@ pub(crate) fn add_edge(
     way: Direction,
     element: &Element,
 ) -> Result<(), Memory>
-    ensures { OnOk result (atoms.new.items ≡ atoms.old.items ++ edge_atoms naming.now.scope link.graph link.left link.right way (element_by (name_of naming.now.names) element.now)) }
+    ensures { OnOk result (atoms.new.items
+        ≡ atoms.old.items ++ edge_atoms naming.now.scope link.graph link.left link.right way (element_by (name_of naming.now.names) element.now)) }
 {
     let e = naming.variable(element)?;
     let labels = element.labels.copy()?;
@@ -77,7 +78,8 @@ fn add_properties(
     kind: Kind,
     properties: &PropertyUseList,
 ) -> Result<(), Memory>
-    ensures { OnOk result (atoms.new.items ≡ atoms.old.items ++ property_atoms naming.now.scope graph x kind (row (map (property_use_by (name_of naming.now.names)) properties.now))) }
+    ensures { OnOk result (atoms.new.items
+        ≡ atoms.old.items ++ property_atoms naming.now.scope graph x kind (row (map (property_use_by (name_of naming.now.names)) properties.now))) }
 {
     for asked in properties.as_slice() {
         add_property(atoms, naming, graph, x, kind, asked)?;
@@ -94,7 +96,8 @@ fn add_property(
     kind: Kind,
     asked: &PropertyUse,
 ) -> Result<(), Memory>
-    ensures { OnOk result (atoms.new.items ≡ atoms.old.items ++ property_atom naming.now.scope graph x kind (property_use_by (name_of naming.now.names) asked.now) ∷ []) }
+    ensures { OnOk result (atoms.new.items
+        ≡ atoms.old.items ++ property_atom naming.now.scope graph x kind (property_use_by (name_of naming.now.names) asked.now) ∷ []) }
 {
     let name = asked.property.copy()?;
     let value = naming.number(asked.value.sym)?;

@@ -12,8 +12,6 @@ mod numbering;
 mod reads;
 mod renumbering;
 mod stop;
-#[cfg(test)]
-mod tests;
 
 pub use lowering::lower;
 pub use numbering::{variable, variables};

@@ -100,7 +100,8 @@ fn sum_parts(naming: &Naming<'_>, parts: &SumPartList) -> Result<SumPartList, Me
 #[tactic(auto, unfolding(gc_expr::specs::Trees::renamed, gc_expr::specs::Views::numbered_expr, gc_expr::specs::Views::numbered_product_part))]
 #[cycle(renumbered)]
 fn product_parts(naming: &Naming<'_>, parts: &ProductPartList) -> Result<ProductPartList, Memory>
-    ensures { IfOk result (λ made. map numbered_product_part made.items ≡ map (λ p. renamed (variable_in naming.now) (numbered_product_part p)) parts.now.items) }
+    ensures { IfOk result (λ made. map numbered_product_part made.items
+        ≡ map (λ p. renamed (variable_in naming.now) (numbered_product_part p)) parts.now.items) }
 {
     let mut made = Vec::with_capacity(*parts.allocator(), parts.len())?;
     for part in parts {

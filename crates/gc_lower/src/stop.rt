@@ -5,7 +5,7 @@ use gc_base::Memory;
 use std::alloc::{AllocError, AllocFailed};
 
 /// Why a block is not lowered.
-#[derive(Debug, Drop)]
+#[derive(Drop)]
 pub(crate) enum Stop {
     /// It has what is not lowered yet, or a link without a node beside it.
     Unlowered,

@@ -15,7 +15,7 @@ use Rattle.gc_rows.proofs.Members.{from_flat_map, to_flat_map}
 use Rattle.gc_spec.specs.PropertyGraph.{Node, PropertyGraph}
 use Rattle.gc_values.specs.declared.reads.ReadUse.{ReadUse}
 use Rattle.gc_build.specs.BoundNodes.{Bindings, IsOfBoundNodes, ids_of, binds, read_node, united_if, described, bare}
-use Rattle.gc_build.proofs.Members.{same_test}
+use Rattle.gc_rows.proofs.Members.{same_test}
 
 -- what ties with a number is that number
 tied : (x k : ℕ) → is_eq (nat_cmp x k) ≡ true → x ≡ k

@@ -7,7 +7,5 @@ mod basics;
 mod items;
 mod nodes;
 mod plans;
-#[cfg(test)]
-mod tests;
 
 pub use answers::answer;

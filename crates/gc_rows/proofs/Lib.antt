@@ -1,4 +1,5 @@
 pub mod AlgebraLaws
+pub mod AscendingLists
 pub mod JoinLaws
 pub mod KeyLaws
 pub mod LinkLaws
@@ -6,5 +7,6 @@ pub mod Lookup
 pub mod Members
 pub mod RowLaws
 pub mod SameTable
+pub mod SortLaws
 pub mod TableLaws
 pub mod UnionLaws

@@ -1,10 +1,8 @@
 -- What sorting leaves of a list of rows.
-use Rattle.std.proofs.Common.{◌≡◌, true, List, [], ◌∷◌, refl, sym, subst}
-use Rattle.std.specs.declared.cmp.Ordering.{Ordering}
-use Rattle.std.specs.declared.cmp.Ordering.TheVariants.{Less, Equal, Greater}
-use Rattle.std.specs.Ordering.{is_eq, eq_by_cmp}
+use Rattle.std.proofs.Common.{◌≡◌, List, [], ◌∷◌, refl, sym, subst}
+use Rattle.std.specs.Ordering.{eq_by_cmp}
 use Rattle.std.specs.List.{AllByRecursion, Contains, dedup}
-use Rattle.std.specs.List.Sorted.{IsPermutation, IsSorted, IsStrictlySortedBy}
+use Rattle.std.specs.List.Sorted.{IsPermutation, IsSorted}
 use Rattle.std.specs.Cmp.{eq_by_cmp_equiv}
 use Rattle.std.proofs.lemmas.List.Kept.{Any-dedup, Contains-from_dedup, IsStrictlySortedBy-dedup}
 use Rattle.std.proofs.lemmas.List.Sorted.{Contains-permutation, IsPermutation-sym}
@@ -15,16 +13,7 @@ use Rattle.gc_rows.specs.Rows.{IsRow, IsOver, row_order}
 use Rattle.gc_rows.specs.Tables.{IsRowOver, AreRowsOver, HasExactly}
 use Rattle.gc_rows.proofs.RowLaws.{row_order_total, row_order_exact}
 use Rattle.gc_rows.proofs.Members.{of_member, of_part}
-
-Ascends-strict : {X : Type 0} (cmp : X → X → Ordering) (xs : List X) → IsStrictlySortedBy cmp xs → Ascends cmp xs
-unfolding IsStrictlySortedBy
-Ascends-strict cmp [] h = tt
-Ascends-strict cmp (x ∷ xs) h = (h.0, Ascends-strict cmp xs h.1)
-
-tie_is : (o : Ordering) → is_eq o ≡ true → o ≡ Equal
-tie_is Less h = cc
-tie_is Equal h = refl
-tie_is Greater h = cc
+use Rattle.gc_rows.proofs.SortLaws.{Ascends-strict, tie_is}
 
 -- rows that ascend and are over the schema are rows over it
 pub rows_over : (schema : List Sym) (rows : List (List Binding)) → AllByRecursion IsRow rows → AllByRecursion (IsOver schema) rows → AllByRecursion (IsRowOver schema) rows

@@ -15,6 +15,7 @@ mod semijoins;
 mod table;
 #[cfg(test)]
 mod tests;
+mod variables;
 
 pub use datum::Datum;
 pub use joins::{join, outer};
@@ -28,3 +29,4 @@ pub use projection::project;
 pub use row::{Binding, Row, RowList, SymList, row_cmp};
 pub use semijoins::{antijoin, semijoin};
 pub use table::Table;
+pub use variables::{each_once, is_listed};

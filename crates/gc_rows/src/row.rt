@@ -4,10 +4,11 @@ ghost use Rattle.std.specs.Ordering.{nat_cmp};
 ghost use Rattle.gc_base.specs.Places.{IsPlaceOrGap};
 ghost use Rattle.gc_rows.specs.Data.{datum_order};
 ghost use Rattle.gc_rows.specs.declared.row.Binding.{Binding};
-ghost use Rattle.gc_rows.specs.Rows.{datum_at, bind, lists, row_order, IsRow, IsOver};
+ghost use Rattle.gc_rows.specs.Rows.{datum_at, bind, row_order, IsRow, IsOver};
 ghost use Rattle.gc_rows.specs.Algebra.{restricted};
 
 use crate::datum::Datum;
+use crate::variables::is_listed;
 use gc_base::{Duplicate, Memory, Sequence, Sym};
 use std::alloc::Global;
 use std::cmp::Ordering;
@@ -145,13 +146,6 @@ impl Duplicate for Row {
     fn copy(&self) -> Result<Row, Memory> {
         self.copy_with_room(0)
     }
-}
-
-/// Whether a list has a variable.
-pub fn is_listed(vars: &[Sym], var: Sym) -> bool
-    ensures { result ≡ lists vars.now var }
-{
-    vars.iter().any(|other| other.0 == var.0)
 }
 
 /// The order of rows: variable by variable in the order of the schema, unbound first.

@@ -1,10 +1,14 @@
+pub mod Adding
 pub mod Assembling
 pub mod Coherent
 pub mod CommonParts
 pub mod DifferenceLaws
 pub mod Finds
 pub mod IntersectionLaws
+pub mod Itself
+pub mod Neighbours
 pub mod NewIds
+pub mod Outcomes
 pub mod Sets
 pub mod Shapes
 pub mod Together

@@ -1,6 +1,9 @@
 pub mod Additions
+pub mod Claims
 pub mod Descriptions
 pub mod Differences
 pub mod Elements
+pub mod Gathered
 pub mod Intersections
 pub mod Unions
+pub mod Wholes

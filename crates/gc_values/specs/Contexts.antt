@@ -18,16 +18,23 @@ pub record Context : Type 0 where
   pub made : List Made
 
 -- the graph of a variable, if it has one: of its two numbers the one that is asked for
-abbrev pub graph_by : (ReadUse → ℕ) → Context → Sym → Option PropertyGraph
-graph_by number ctx x = option_and_then (slice_get ctx.graphs) (option_map number (find (λ read. read.var.0 == x.0) ctx.reads))
+abbrev pub graph_by : (ReadUse → ℕ) → List ReadUse → List PropertyGraph → Sym → Option PropertyGraph
+graph_by number reads graphs x = option_and_then (slice_get graphs) (option_map number (find (λ read. read.var.0 == x.0) reads))
 
--- the graph in which its own labels, properties and walk are read
+-- among graphs, the one in which a variable's own labels, properties and walk are read
+abbrev pub own_among : List ReadUse → List PropertyGraph → Sym → Option PropertyGraph
+own_among = graph_by (λ read. read.own)
+
+-- among graphs, the one in which the elements on a variable's walk are read
+abbrev pub walk_among : List ReadUse → List PropertyGraph → Sym → Option PropertyGraph
+walk_among = graph_by (λ read. read.walk)
+
+-- the same in a context
 abbrev pub own_graph : Context → Sym → Option PropertyGraph
-own_graph = graph_by (λ read. read.own)
+own_graph ctx x = own_among ctx.reads ctx.graphs x
 
--- the graph in which the elements on its walk are read
 abbrev pub walk_graph : Context → Sym → Option PropertyGraph
-walk_graph = graph_by (λ read. read.walk)
+walk_graph ctx x = walk_among ctx.reads ctx.graphs x
 
 -- what was made of a construct variable, if it is one
 abbrev pub made_of : Context → Sym → Option Made

@@ -2,7 +2,8 @@ ghost use Rattle.std.specs.Prelude.{◌≡◌, ◌==◌, slice_get};
 ghost use Rattle.std.specs.List.{find};
 ghost use Rattle.std.specs.Option.{option_copied, option_and_then};
 
-use crate::reads::{Made, MadeList, ReadUse, Reads};
+use crate::graphs::{own_graph, walk_graph};
+use crate::reads::{Made, MadeList, Reads};
 use gc_base::Sym;
 use gc_ppg::{Graph, GraphList};
 use gc_rows::{Datum, Row};
@@ -35,20 +36,14 @@ impl Context<'_> {
     pub(crate) fn own_graph(&self, var: Sym) -> Option<&Graph>
         ensures { option_copied result ≡ own_graph self.now var }
     {
-        match self.read_use(var) {
-            Some(read) => self.graph(read.own),
-            None => None,
-        }
+        own_graph(self.reads, self.graphs, var)
     }
 
     /// The graph in which the elements on a variable's walk are read, if it has one.
     pub(crate) fn walk_graph(&self, var: Sym) -> Option<&Graph>
         ensures { option_copied result ≡ walk_graph self.now var }
     {
-        match self.read_use(var) {
-            Some(read) => self.graph(read.walk),
-            None => None,
-        }
+        walk_graph(self.reads, self.graphs, var)
     }
 
     /// What was made of a variable, if it is one of the CONSTRUCT.
@@ -66,22 +61,5 @@ impl Context<'_> {
             Some(made) => made.datum.as_ref(),
             None => self.row.get(var),
         }
-    }
-
-    // The numbers of a variable's graphs.
-    fn read_use(&self, var: Sym) -> Option<&ReadUse>
-        ensures { option_copied result ≡ find (λ read. read.var.0 == var.0) self.now.reads }
-    {
-        self.reads
-            .as_slice()
-            .iter()
-            .find(|read| read.var.0 == var.0)
-    }
-
-    // The graph of a number.
-    fn graph(&self, number: u32) -> Option<&Graph>
-        ensures { option_copied result ≡ slice_get self.now.graphs number }
-    {
-        self.graphs.as_slice().get(number as usize)
     }
 }

@@ -8,18 +8,16 @@ mod along;
 mod compared;
 mod context;
 mod described;
-#[cfg(test)]
-mod example;
 mod folded;
+mod graphs;
 mod numbers;
 mod reads;
-#[cfg(test)]
-mod tests;
 mod truth3;
 mod truths;
 mod val;
 mod values;
 
+pub use graphs::{own_graph, walk_graph};
 pub use reads::{Made, MadeList, ReadUse, Reads};
 pub use truth3::Truth3;
 pub use truths::truth;

@@ -6,7 +6,7 @@ use Rattle.std.proofs.lemmas.Fn.{dedup_same, always_returns_same}
 use Rattle.std.proofs.lemmas.List.Sorted.{ranks_by}
 use Rattle.gc_group.specs.Groups.{key_order}
 use Rattle.gc_group.proofs.KeyOrder.{key_order_total, key_order_exact}
-use Rattle.gc_group.proofs.SortLaws.{sorted_ascend, sorted_exact}
+use Rattle.gc_rows.proofs.SortLaws.{sorted_ascend, sorted_exact}
 use Rattle.gc_group.proofs.held.sorted.Goals as goal
 
 pub returns-clause-ascend : goal.returns-clause-ascend

@@ -6,7 +6,7 @@ use Rattle.std.proofs.lemmas.Fn.{dedup_same, always_returns_same}
 use Rattle.std.proofs.lemmas.List.Sorted.{ranks_by}
 use Rattle.gc_base.specs.Literals.{literal_order}
 use Rattle.gc_base.specs.LiteralLaws.{literal_order_total, literal_order_exact}
-use Rattle.gc_group.proofs.SortLaws.{sorted_exact}
+use Rattle.gc_rows.proofs.SortLaws.{sorted_exact}
 use Rattle.gc_group.proofs.listed.ascending.Goals as goal
 
 pub returns : goal.returns

@@ -1,4 +1,0 @@
-use Rattle.gc_build.proofs.tests.bound.Given as goal
-
-abbrev pub ghosts-bound_by : goal.ghosts-bound_by
-ghosts-bound_by a = record { name = a.blank.name; parts = a.blank.parts }

@@ -1,0 +1,73 @@
+-- The graph that a CONSTRUCT makes of a table, or the fault that it ends in.
+use Rattle.std.specs.Prelude.{◌≡◌, ℕ, ◌+◌, ◌<◌, ◌≤◌, List, map, Option, Some, None, Result, Ok, Err, ⊤}
+use Rattle.gc_build.specs.Claimed.{all_claims}
+use Rattle.gc_build_descriptions.specs.Described.{described_variable}
+use Rattle.gc_build_descriptions.specs.Faults.{first_fault}
+use Rattle.gc_build_descriptions.specs.declared.described.Described.{Described}
+use Rattle.gc_build_descriptions.specs.declared.fault.Fault.{Fault}
+use Rattle.gc_build_numbers.specs.Numbers.{numbering}
+use Rattle.gc_build_numbers.specs.Settings.{Setting}
+use Rattle.gc_build_numbers.specs.declared.numbered.Numbered.{Numbered}
+use Rattle.gc_build_recipe.specs.declared.recipe.Recipe.{Recipe}
+use Rattle.gc_spec.specs.PropertyGraph.{PropertyGraph}
+use Rattle.gc_sets.specs.Claims.{Claims, IsClaimed, IsOutcome}
+use Rattle.gc_build.specs.declared.built.Built.{Built}
+use Rattle.gc_build.specs.declared.built.Refusal.{Refusal}
+use Rattle.gc_build.specs.declared.built.Refusal.TheVariants as refusal
+
+-- Take `CONSTRUCT (x)-[y:B]->(z {k := COUNT(*)})` on the rows x = node 1 and x = node 2, where the next identity is 5: z is made
+-- for each row as 5 and 6, with k = {1}, and y from 1 to 5 as 7 and from 2 to 6 as 8; the next identity is then 9.
+
+-- the elements of the variables, and how many numbers they take
+abbrev pub elements : Setting → Recipe → List Numbered
+elements s r = (numbering s r.variables).variables
+
+abbrev pub needed : Setting → Recipe → ℕ
+needed s r = (numbering s r.variables).next
+
+-- the first assignment that is undefined on a row, if one is
+abbrev pub fault : Setting → Recipe → Option Fault
+fault s r = first_fault s (elements s r) r.assignments.items
+
+-- what is claimed, where the variables have these elements with these descriptions, and new ones have identities from the next one on
+abbrev pub claims_by : Setting → Recipe → (next : ℕ) → List Numbered → List Described → Claims
+claims_by s r next numbered described =
+    all_claims (record { setting = s; variables = r.variables; numbered = numbered; described = described; next = next }) r.chains.items r.graphs
+
+abbrev pub claims : Setting → Recipe → (next : ℕ) → Claims
+claims s r next = claims_by s r next (elements s r) (map (described_variable s r (elements s r)) r.variables)
+
+-- the identity behind so many new ones; they suffice where it is at most one more than the largest
+abbrev pub IsAfter : (next count : ℕ) → Option ℕ → Type 0
+IsAfter next count (Some after) = (after ≡ next + count) × (after ≤ 9007199254740992)
+IsAfter next count None = 9007199254740992 < next + count
+
+-- no assignment is undefined, and the identities suffice
+pub record IsSound (s : Setting) (r : Recipe) (next : ℕ) : Type 0 where
+  pub defined : fault s r ≡ None
+  pub room : next + needed s r ≤ 9007199254740992
+
+-- no assignment is undefined, but the identities do not suffice: so many are needed
+pub record IsSpent (s : Setting) (r : Recipe) (next count : ℕ) : Type 0 where
+  pub defined : fault s r ≡ None
+  pub needs : count ≡ needed s r
+  pub spent : 9007199254740992 < next + count
+
+-- the graph of all claims, and the identity that comes next
+pub record IsBuilt (s : Setting) (r : Recipe) (next : ℕ) (b : Built) : Type 0 where
+  pub sound : IsSound s r next
+  pub graph : IsClaimed (claims s r next) b.graph
+  pub after : b.next ≡ next + needed s r
+
+-- the claims are those of no graph
+pub record IsUnfit (s : Setting) (r : Recipe) (next : ℕ) : Type 0 where
+  pub sound : IsSound s r next
+  pub none : (g : PropertyGraph) → IsClaimed (claims s r next) g → ⊥
+
+-- what a CONSTRUCT comes to
+abbrev pub Constructs : Setting → Recipe → (next : ℕ) → Result (Option Built) Refusal → Type 0
+Constructs s r next (Ok (Some b)) = IsBuilt s r next b
+Constructs s r next (Ok None) = IsUnfit s r next
+Constructs s r next (Err (refusal.Fault f)) = fault s r ≡ Some f
+Constructs s r next (Err (refusal.IdsSpent count)) = IsSpent s r next count
+Constructs s r next (Err refusal.Memory) = ⊤

@@ -1,0 +1,93 @@
+ghost use Rattle.std.specs.Prelude.{◌≡◌, IfOk};
+ghost use Rattle.gc_build.specs.Claimed.{seen};
+ghost use Rattle.gc_build.specs.Constructed.{Constructs, IsAfter, claims_by};
+ghost use Rattle.gc_sets.specs.Claims.{IsOutcome};
+
+use crate::built::{Built, Refusal};
+use crate::claiming::claims;
+use crate::elements::Claims;
+use crate::making::Making;
+use gc_base::{Memory, Steps};
+use gc_build_descriptions::{DescribedList, Refusal as DescribeRefusal, describe};
+use gc_build_numbers::{Numbering, Setting, number};
+use gc_build_recipe::Recipe;
+use gc_ppg::Graph;
+use gc_sets::unite;
+use std::sync::ledger::Ledger;
+
+// One more than the largest identity.
+const END: u64 = 9_007_199_254_740_992;
+
+/// The graph that a CONSTRUCT makes of a table, and the identity that comes next, where new elements have
+/// identities from `next` on. It is refused as `Fault` exactly where an assignment is undefined on a row
+/// of a group of its variable, and else as `IdsSpent` exactly where the new identities would pass the
+/// largest. There is `None` exactly where what it claims is no graph. `steps` counts what is read.
+pub fn construct<L: Ledger>(
+    setting: &Setting<'_>,
+    recipe: &Recipe,
+    next: u64,
+    steps: &mut Steps<L>,
+) -> Result<Option<Built>, Refusal>
+    ensures { Constructs setting.now recipe.now next result }
+{
+    let numbering = number(setting, recipe.variables.as_slice(), steps)?;
+    let described = match describe(setting, recipe, &numbering, steps) {
+        Ok(described) => described,
+        Err(DescribeRefusal::Fault(fault)) => return Err(Refusal::Fault(fault)),
+        Err(DescribeRefusal::Memory) => return Err(Refusal::Memory),
+    };
+    let Some(after) = after(next, numbering.next) else {
+        return Err(Refusal::IdsSpent(numbering.next));
+    };
+    match united(setting, recipe, &numbering, &described, next, steps)? {
+        None => Ok(None),
+        Some(graph) => Ok(Some(Built { graph, next: after })),
+    }
+}
+
+// The identity behind so many new ones, if there are so many.
+fn after(next: u64, needed: u64) -> Option<u64>
+    ensures { IsAfter next needed result }
+{
+    let after = next.checked_add(needed)?;
+    if after > END {
+        return None;
+    }
+    Some(after)
+}
+
+// The graph of what is claimed, if there is one.
+fn united<L: Ledger>(
+    setting: &Setting<'_>,
+    recipe: &Recipe,
+    numbering: &Numbering,
+    described: &DescribedList,
+    next: u64,
+    steps: &mut Steps<L>,
+) -> Result<Option<Graph>, Memory>
+    ensures { IfOk result (IsOutcome (claims_by setting.now recipe.now next numbering.now.variables described.now)) }
+{
+    let claims = claimed(setting, recipe, numbering, described, next, steps)?;
+    unite(setting.alloc, claims.nodes, claims.edges, claims.paths)
+}
+
+// What is claimed.
+fn claimed<L: Ledger>(
+    setting: &Setting<'_>,
+    recipe: &Recipe,
+    numbering: &Numbering,
+    described: &DescribedList,
+    next: u64,
+    steps: &mut Steps<L>,
+) -> Result<Claims, Memory>
+    ensures { IfOk result (λ claims. seen claims ≡ claims_by setting.now recipe.now next numbering.now.variables described.now) }
+{
+    let making = Making {
+        setting,
+        variables: recipe.variables.as_slice(),
+        numbered: numbering.variables.as_slice(),
+        described: described.as_slice(),
+        next,
+    };
+    claims(&making, &recipe.chains, recipe.graphs.as_slice(), steps)
+}

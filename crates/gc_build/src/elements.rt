@@ -1,0 +1,91 @@
+ghost use Rattle.std.specs.Prelude.{◌≡◌, ◌++◌, List, OnOk};
+ghost use Rattle.gc_build.specs.Claimed.{same_kind, claims_for, claims_of};
+ghost use Rattle.gc_build.specs.Makings.{Making as MakingSeen, descriptions_of};
+ghost use Rattle.gc_build_descriptions.specs.Faults.{elements_of};
+ghost use Rattle.gc_build_numbers.specs.declared.numbered.Element.{Element as ElementSeen};
+ghost use Rattle.gc_build_recipe.specs.declared.variable.Variable.{Variable as VariableSeen};
+ghost use Rattle.gc_values.specs.Descriptions.{Description as DescriptionSeen};
+ghost use Rattle.gc_ppg.specs.declared.shape.Kind.{Kind as KindSeen};
+
+use crate::kept::{Kept, is_claimed};
+use crate::making::Making;
+use gc_base::{Memory, Steps};
+use gc_build_descriptions::Description;
+use gc_build_numbers::Element;
+use gc_build_recipe::Variable;
+use gc_ppg::{EdgeInfo, Kind, NodeInfo, PathInfo};
+use std::sync::ledger::Ledger;
+
+/// Elements that are claimed, in any order and some of them several times.
+#[derive(Debug, Drop)]
+pub struct Claims {
+    pub nodes: Vec<NodeInfo>,
+    pub edges: Vec<EdgeInfo>,
+    pub paths: Vec<PathInfo>,
+}
+
+/// What is claimed for elements of variables of one kind: nodes, edges or stored paths.
+pub(crate) trait Claim {
+    /// The kind of the variables.
+    ghost kind: { KindSeen };
+
+    /// What is claimed for an element of a variable.
+    ghost claims: { MakingSeen → VariableSeen → ElementSeen → DescriptionSeen → List Self };
+
+    // Whether a kind is that one.
+    fn is_of(k: Kind) -> bool
+        ensures { result ≡ same_kind k kind };
+
+    // Adds what is claimed for an element of a variable.
+    fn claim<L: Ledger>(
+        claimed: &mut Vec<Self>,
+        making: &Making<'_>,
+        variable: &Variable,
+        element: &Element,
+        description: &Description,
+        steps: &mut Steps<L>,
+    ) -> Result<(), Memory>
+        ensures { OnOk result (claimed.new.items ≡ claimed.old.items ++ claims making.now variable.now element.now description.now) };
+}
+
+/// Adds what is claimed for those of a variable's elements that kept instances have, where the
+/// variable is of the kind.
+pub(crate) fn claim_for<T: Claim + Drop, L: Ledger>(
+    claimed: &mut Vec<T>,
+    making: &Making<'_>,
+    kept: &[Kept<'_>],
+    variable: &Variable,
+    steps: &mut Steps<L>,
+) -> Result<(), Memory>
+    ensures { OnOk result (claimed.new.items ≡ claimed.old.items ++ claims_for making.now kept.now T.kind (T.claims making.now) variable.now) }
+{
+    if !T::is_of(variable.kind) {
+        return Ok(());
+    }
+    claim_all(claimed, making, kept, variable, steps)
+}
+
+// Adds what is claimed for those of a variable's elements that kept instances have.
+fn claim_all<T: Claim + Drop, L: Ledger>(
+    claimed: &mut Vec<T>,
+    making: &Making<'_>,
+    kept: &[Kept<'_>],
+    variable: &Variable,
+    steps: &mut Steps<L>,
+) -> Result<(), Memory>
+    ensures { OnOk result (claimed.new.items ≡ claimed.old.items
+        ++ claims_of kept.now variable.now.var (T.claims making.now variable.now) (elements_of making.now.numbered variable.now.var) (descriptions_of making.now.described variable.now.var)) }
+{
+    let elements = making.elements(variable.var);
+    let mut descriptions = making.descriptions(variable.var);
+    for element in elements {
+        let Some((description, rest)) = descriptions.split_first() else {
+            return Ok(());
+        };
+        descriptions = rest;
+        if is_claimed(kept, variable.var, element) {
+            T::claim(claimed, making, variable, element, description, steps)?;
+        }
+    }
+    Ok(())
+}

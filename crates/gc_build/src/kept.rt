@@ -1,0 +1,130 @@
+ghost use Rattle.std.specs.Prelude.{◌≡◌, ◌&&◌, ◌||◌, IfOk, map};
+ghost use Rattle.gc_build.specs.Kept.{has_instance, is_claimed, is_kept, kept_from, kept_of};
+ghost use Rattle.gc_build.specs.Walks.{has_walk};
+ghost use Rattle.gc_rows.specs.Rows.{lists};
+
+use crate::instances::keeps;
+use crate::making::Making;
+use gc_base::{Memory, Steps, Sym};
+use gc_build_numbers::Element;
+use gc_build_recipe::Chain;
+use gc_rows::{SymList, is_listed};
+use std::marker::Model;
+use std::sync::ledger::Ledger;
+
+/// The instances of a chain: its places, the paths that it projects, and whether that on each row is
+/// kept.
+#[derive(Drop)]
+pub(crate) struct Kept<'a> {
+    places: &'a SymList,
+    pub projected: &'a SymList,
+    rows: Vec<bool>,
+}
+
+impl<'a> Model for Kept<'a> {
+    ghost use Rattle.gc_build.specs.Kept.{Kept};
+
+    ghost Value = { Kept };
+
+    ghost view = { λ k. record { places = k.places.now; projected = k.projected.now; rows = k.rows.items } };
+}
+
+impl Kept<'_> {
+    // Whether the instance on the row at a place is kept.
+    fn is_kept(&self, place: usize) -> bool
+        ensures { result ≡ is_kept place self.now }
+    {
+        match self.rows.get(place) {
+            None => false,
+            Some(kept) => *kept,
+        }
+    }
+
+    // Whether it is, and has a variable at one of its places.
+    fn has(&self, var: Sym, place: usize) -> bool
+        ensures { result ≡ (lists self.now.places var && is_kept place self.now) }
+    {
+        is_listed(self.places.as_slice(), var) && self.is_kept(place)
+    }
+
+    // Whether it is, and has the walk of a path, which it stores or projects.
+    fn has_walk(&self, path: Sym, place: usize) -> bool
+        ensures { result ≡ ((lists self.now.places path || lists self.now.projected path) && is_kept place self.now) }
+    {
+        let has_path = is_listed(self.places.as_slice(), path)
+            || is_listed(self.projected.as_slice(), path);
+        has_path && self.is_kept(place)
+    }
+}
+
+/// The instances of each chain, in the order of the chains.
+pub(crate) fn kept_instances<'a, L: Ledger>(
+    making: &Making<'_>,
+    chains: &'a [Chain],
+    steps: &mut Steps<L>,
+) -> Result<Vec<Kept<'a>>, Memory>
+    ensures { IfOk result (λ kept. kept.items ≡ map (kept_of making.now) chains.now) }
+{
+    let setting = making.setting;
+    let mut kept = Vec::with_capacity(setting.alloc, chains.len())?;
+    for chain in chains {
+        kept.push(kept_of(making, chain, steps)?)?;
+    }
+    Ok(kept)
+}
+
+// The instances of a chain.
+fn kept_of<'a, L: Ledger>(
+    making: &Making<'_>,
+    chain: &'a Chain,
+    steps: &mut Steps<L>,
+) -> Result<Kept<'a>, Memory>
+    ensures { IfOk result (λ kept. kept ≡ kept_of making.now chain.now) }
+{
+    let rows = kept_rows(making, chain, steps)?;
+    Ok(Kept {
+        places: &chain.places,
+        projected: &chain.projected,
+        rows,
+    })
+}
+
+// Whether the instance of a chain on each row of the table is kept.
+fn kept_rows<L: Ledger>(
+    making: &Making<'_>,
+    chain: &Chain,
+    steps: &mut Steps<L>,
+) -> Result<Vec<bool>, Memory>
+    ensures { IfOk result (λ kept. kept.items ≡ kept_from making.now chain.now 0 making.now.setting.rows) }
+{
+    let setting = making.setting;
+    let rows = setting.table.rows().as_slice();
+    let mut kept = Vec::with_capacity(setting.alloc, rows.len())?;
+    for (place, row) in rows.iter().enumerate() {
+        kept.push(keeps(making, chain, place, row, steps)?)?;
+    }
+    Ok(kept)
+}
+
+/// Whether an instance is kept that has an element of a variable.
+pub(crate) fn is_claimed(kept: &[Kept<'_>], var: Sym, element: &Element) -> bool
+    ensures { result ≡ is_claimed kept.now var element.now }
+{
+    let rows = element.group.rows.as_slice();
+    rows.iter()
+        .any(|row| has_instance(kept, var, *row as usize))
+}
+
+// Whether an instance on the row at a place is kept that has a variable.
+fn has_instance(kept: &[Kept<'_>], var: Sym, place: usize) -> bool
+    ensures { result ≡ has_instance kept.now var place }
+{
+    kept.iter().any(|one| one.has(var, place))
+}
+
+/// Whether an instance on the row at a place is kept that has the walk of a path.
+pub(crate) fn has_walk(kept: &[Kept<'_>], path: Sym, place: usize) -> bool
+    ensures { result ≡ has_walk kept.now path place }
+{
+    kept.iter().any(|one| one.has_walk(path, place))
+}

@@ -1,0 +1,167 @@
+ghost use Rattle.std.specs.Prelude.{◌≡◌, ◌==◌, IfOk, slice_get};
+ghost use Rattle.std.specs.List.{find};
+ghost use Rattle.std.specs.Option.{option_and_then, option_copied};
+ghost use Rattle.gc_build_numbers.specs.Keys.{number_at, which_at};
+ghost use Rattle.gc_build.specs.Makings.{descriptions_of, identity_at, identity_by, identity_of};
+ghost use Rattle.gc_build_descriptions.specs.Faults.{elements_of};
+ghost use Rattle.gc_build.specs.Walks.{along_graph, read_graph};
+
+use gc_base::{Id, Memory, Sym};
+use gc_build_descriptions::{Described, Description};
+use gc_build_numbers::{Element, Numbered, Setting};
+use gc_build_recipe::{Grouping, Variable};
+use gc_ppg::Graph;
+use gc_values::{own_graph, walk_graph};
+use std::marker::Model;
+
+/// What is read, the variables of a CONSTRUCT, their elements with descriptions, and the next identity.
+#[derive(Drop)]
+pub struct Making<'a> {
+    pub setting: &'a Setting<'a>,
+    pub variables: &'a [Variable],
+    pub numbered: &'a [Numbered],
+    pub described: &'a [Described],
+    pub next: u64,
+}
+
+impl<'a> Model for Making<'a> {
+    ghost use Rattle.gc_build.specs.Makings.{Making};
+
+    ghost Value = { Making };
+
+    ghost view = { λ m. record { setting = m.setting.now; variables = m.variables.now; numbered = m.numbered.now; described = m.described.now; next = m.next } };
+}
+
+impl Making<'_> {
+    /// The identity of an element that is grouped so and has a number. One that passes the limit is
+    /// want of memory.
+    pub(crate) fn identity(&self, grouping: &Grouping, number: u64) -> Result<Id, Memory>
+        ensures { IfOk result (λ id. id ≡ identity_by self.now.next grouping.now number) }
+    {
+        let identity = match grouping {
+            Grouping::Bound => Some(number),
+            _ => self.next.checked_add(number),
+        };
+        match identity {
+            None => Err(Memory),
+            Some(identity) => Id::new(identity).ok_or(Memory),
+        }
+    }
+
+    /// The identity that the row at a place gives to a variable, if it makes an element of it.
+    pub(crate) fn identity_of(
+        &self,
+        place: usize,
+        variable: &Variable,
+    ) -> Result<Option<Id>, Memory>
+        ensures { IfOk result (λ id. id ≡ identity_of self.now place variable.now) }
+    {
+        match self.number_at(variable.var, place) {
+            None => Ok(None),
+            Some(number) => Ok(Some(self.identity(&variable.grouping, number)?)),
+        }
+    }
+
+    /// The same for the variable of a number, if the CONSTRUCT has it.
+    pub(crate) fn identity_at(&self, var: Sym, place: usize) -> Result<Option<Id>, Memory>
+        ensures { IfOk result (λ id. id ≡ identity_at self.now var place) }
+    {
+        match self.variable(var) {
+            None => Ok(None),
+            Some(variable) => self.identity_of(place, variable),
+        }
+    }
+
+    // The number of the element that the row at a place makes of a variable.
+    fn number_at(&self, var: Sym, place: usize) -> Option<u64>
+        ensures { result ≡ number_at self.now.numbered var place }
+    {
+        match self.numbered(var) {
+            None => None,
+            Some(numbered) => numbered.number_in(place),
+        }
+    }
+
+    // Which of a variable's elements the row at a place makes, if it makes one.
+    fn which_at(&self, var: Sym, place: usize) -> Option<usize>
+        ensures { result ≡ which_at self.now.numbered var place }
+    {
+        match self.numbered(var) {
+            None => None,
+            Some(numbered) => numbered.which_of(place),
+        }
+    }
+
+    // A variable by its number.
+    fn variable(&self, var: Sym) -> Option<&Variable>
+        ensures { option_copied result ≡ find (λ v. v.var.0 == var.0) self.now.variables }
+    {
+        self.variables.iter().find(|v| v.var.0 == var.0)
+    }
+
+    // A variable with descriptions.
+    fn described(&self, var: Sym) -> Option<&Described>
+        ensures { option_copied result ≡ find (λ d. d.var.0 == var.0) self.now.described }
+    {
+        self.described.iter().find(|d| d.var.0 == var.0)
+    }
+
+    // A variable with its elements.
+    fn numbered(&self, var: Sym) -> Option<&Numbered>
+        ensures { option_copied result ≡ find (λ v. v.var.0 == var.0) self.now.numbered }
+    {
+        self.numbered.iter().find(|v| v.var.0 == var.0)
+    }
+
+    /// The elements of a variable, by ascending keys.
+    pub(crate) fn elements(&self, var: Sym) -> &[Element]
+        ensures { result.now ≡ elements_of self.now.numbered var }
+    {
+        match self.numbered(var) {
+            None => &[],
+            Some(numbered) => numbered.elements.as_slice(),
+        }
+    }
+
+    /// The descriptions of a variable's elements, in their order.
+    pub(crate) fn descriptions(&self, var: Sym) -> &[Description]
+        ensures { result.now ≡ descriptions_of self.now.described var }
+    {
+        match self.described(var) {
+            None => &[],
+            Some(described) => described.descriptions.as_slice(),
+        }
+    }
+
+    /// The description of the element that the row at a place makes of a variable, if it makes one.
+    pub(crate) fn description_at(&self, var: Sym, place: usize) -> Option<&Description>
+        ensures { option_copied result ≡ option_and_then (slice_get (descriptions_of self.now.described var)) (which_at self.now.numbered var place) }
+    {
+        match self.which_at(var, place) {
+            None => None,
+            Some(which) => self.descriptions(var).get(which),
+        }
+    }
+
+    /// The graph in which a variable is read, if it has one.
+    pub(crate) fn read_graph(&self, var: Sym) -> Option<&Graph>
+        ensures { option_copied result ≡ read_graph self.now.setting var }
+    {
+        own_graph(self.setting.reads, self.setting.graphs, var)
+    }
+
+    /// The graph in which the elements on a variable's walk are read, if it has one.
+    pub(crate) fn along_graph(&self, var: Sym) -> Option<&Graph>
+        ensures { option_copied result ≡ along_graph self.now.setting var }
+    {
+        walk_graph(self.setting.reads, self.setting.graphs, var)
+    }
+
+    /// The graph of a number.
+    pub(crate) fn graph(&self, number: u32) -> Option<&Graph>
+        ensures { option_copied result ≡ slice_get self.now.setting.graphs number }
+    {
+        let setting = self.setting;
+        setting.graphs.as_slice().get(number as usize)
+    }
+}

@@ -1,7 +1,0 @@
-use Rattle.std.proofs.Common.{◌≡◌, ◌++◌, drop}
-use Rattle.gc_claims.specs.Kept.{kept_from}
-use Rattle.gc_claims.proofs.kept.kept_rows.Given as goal
-
--- the rows so far, before those of the rest
-abbrev pub invariant-loop-place : goal.invariant-loop-place
-invariant-loop-place g l = l.kept.items ++ kept_from l.making l.chain l.place (drop l.place l.rows) ≡ kept_from l.making l.chain 0 l.rows

@@ -1,4 +1,0 @@
-pub mod Claimed
-pub mod Kept
-pub mod Makings
-pub mod Walks

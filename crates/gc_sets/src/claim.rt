@@ -1,0 +1,77 @@
+ghost use Rattle.std.specs.Prelude.{◌≡◌, ℕ, OnOk, refl};
+ghost use Rattle.gc_sets.specs.Descriptions.{united_node};
+ghost use Rattle.gc_sets.specs.Unions.{united_edge, united_path};
+
+use crate::descriptions::{unite_labels, unite_properties};
+use gc_base::{Id, Memory};
+use gc_ppg::{EdgeInfo, NodeInfo, PathInfo};
+
+/// What is claimed: a node, an edge or a stored path.
+pub(crate) trait Claim {
+    /// Its identity.
+    ghost id_of: { Self → ℕ };
+
+    /// One with the labels and values of another beside its own.
+    ghost united: { Self → Self → Self };
+
+    fn id(&self) -> Id
+        ensures { result ≡ id_of self.now };
+
+    // Adds the labels and values of another.
+    fn unite(&mut self, more: &Self) -> Result<(), Memory>
+        ensures { OnOk result (self.new ≡ united self.old more.now) };
+
+    /// What is said beside it leaves its identity.
+    ghost same_id: { (a b : Self) → id_of (united a b) ≡ id_of a };
+}
+
+impl Claim for NodeInfo {
+    ghost id_of = { λ n. n.id };
+
+    ghost united = { united_node };
+
+    ghost same_id = { λ a b. refl };
+
+    fn id(&self) -> Id {
+        self.id
+    }
+
+    fn unite(&mut self, more: &NodeInfo) -> Result<(), Memory> {
+        unite_labels(&mut self.labels, &more.labels)?;
+        unite_properties(&mut self.properties, &more.properties)
+    }
+}
+
+impl Claim for EdgeInfo {
+    ghost id_of = { λ e. e.id };
+
+    ghost united = { united_edge };
+
+    ghost same_id = { λ a b. refl };
+
+    fn id(&self) -> Id {
+        self.id
+    }
+
+    fn unite(&mut self, more: &EdgeInfo) -> Result<(), Memory> {
+        unite_labels(&mut self.labels, &more.labels)?;
+        unite_properties(&mut self.properties, &more.properties)
+    }
+}
+
+impl Claim for PathInfo {
+    ghost id_of = { λ p. p.id };
+
+    ghost united = { united_path };
+
+    ghost same_id = { λ a b. refl };
+
+    fn id(&self) -> Id {
+        self.id
+    }
+
+    fn unite(&mut self, more: &PathInfo) -> Result<(), Memory> {
+        unite_labels(&mut self.labels, &more.labels)?;
+        unite_properties(&mut self.properties, &more.properties)
+    }
+}
