@@ -1,12 +1,12 @@
 -- The text of an expression reads back.
-use Rattle.std.proofs.Common.{◌≡◌, ℕ, ◌≤◌, List, [], ◌++◌, length, refl, sym, ap, subst, ◌∙◌, arith, if◌then◌else◌}
+use Rattle.std.proofs.Common.{[], ◌++◌, length, refl, sym, ap, subst, ◌∙◌, arith}
 use Rattle.std.proofs.lemmas.List.{append-nil}
 use Rattle.gc_lex.specs.Lexis.{lexed}
 use Rattle.gc_regx.specs.Trees.{RegexTree, ARegex}
 use Rattle.gc_grammar.specs.Queries.{SpellsRegex}
 use Rattle.gc_regx.specs.Expressions.{IsExpression}
 use Rattle.gc_print.specs.ReadingBack.{ReadsBack}
-use Rattle.gc_print.specs.RegexTexts.{text_of, regex_text}
+use Rattle.gc_print.specs.RegexTexts.{regex_text}
 use Rattle.gc_print.specs.RegexTokens.{tokens_of}
 use Rattle.gc_print.proofs.AsciiTexts.{text_utf8}
 use Rattle.gc_print.proofs.Lexing.{HasTokens, lexes_end}

@@ -1,9 +1,8 @@
 -- The grammar gives no other expressions than those of which labels are words, views names, and lists long.
-use Rattle.std.proofs.Common.{◌≡◌, ℕ, zero, suc, true, false, List, [], ◌∷◌, ◌++◌, map, Option, Some, None, refl, sym, ap, subst, ◌∙◌}
-use Rattle.std.specs.List.{AllByRecursion}
+use Rattle.std.proofs.Common.{◌≡◌, ℕ, zero, suc, true, false, List, [], ◌∷◌, ◌++◌, map, Option, Some, None, sym, ap, subst, ◌∙◌}
 use Rattle.gc_base.specs.Words.{is_word, is_reserved}
 use Rattle.gc_lex.specs.declared.token.Token.{Token}
-use Rattle.gc_lex.specs.declared.token.Token.TheVariants.{Word, Symbol}
+use Rattle.gc_lex.specs.declared.token.Token.TheVariants.{Word}
 use Rattle.gc_lex.specs.declared.token.Mark.{Mark}
 use Rattle.gc_lex.specs.declared.token.Mark.TheVariants as mark
 use Rattle.gc_regx.specs.Trees as tree
@@ -14,7 +13,7 @@ use Rattle.gc_grammar.specs.Words as words
 use Rattle.gc_grammar.specs.Regexes.{Expression, plain, label, any, test, view, group, atom, star, cat, alt, regex_within, chained, turned, starred}
 use Rattle.gc_grammar.specs.Queries.{SpellsRegex}
 use Rattle.gc_regx.specs.Expressions.{IsFormed, IsLong, IsExpression}
-use Rattle.gc_print.specs.WrittenTokens.{IsWritten, AreWritten}
+use Rattle.gc_print.specs.WrittenTokens.{AreWritten}
 
 front_written : (xs ys : List Token) → AreWritten (xs ++ ys) → AreWritten xs
 front_written [] ys h = tt

@@ -1,10 +1,9 @@
 -- The texts of regular path expressions have the tokens that they are said to have.
-use Rattle.std.proofs.Common.{◌≡◌, ℕ, Bool, true, false, nat_lt, List, [], ◌∷◌, ◌++◌, map, refl, sym, ap, subst, ◌∙◌, cond, append_assoc, codes, ◌==◌, not}
+use Rattle.std.proofs.Common.{◌≡◌, ℕ, Bool, true, false, nat_lt, List, [], ◌∷◌, ◌++◌, map, refl, ap, cond, append_assoc, codes, not}
 use Rattle.std.specs.List.{join_with_byte}
-use Rattle.gc_base.specs.Words.{is_word, is_word_part}
+use Rattle.gc_base.specs.Words.{is_word_part}
 use Rattle.gc_lex.specs.declared.token.Token.{Token}
-use Rattle.gc_lex.specs.declared.token.Token.TheVariants.{Word, Symbol}
-use Rattle.gc_lex.specs.declared.token.Mark.{Mark}
+use Rattle.gc_lex.specs.declared.token.Token.TheVariants.{Symbol}
 use Rattle.gc_lex.specs.declared.token.Mark.TheVariants as mark
 use Rattle.gc_regx.specs.Trees.{Kind, RegexTree, ARegex, ARow, Label, Back, Any, AnyBack, Test, View, Cat, Alt, Star, none, more}
 use Rattle.gc_print.specs.LooseTrees.{looseness_of, rank}
@@ -13,7 +12,7 @@ use Rattle.gc_print.specs.declared.looseness.Looseness.TheVariants as loose
 use Rattle.gc_print.specs.RegexTexts.{Part, enclosed, text_of}
 use Rattle.gc_print.specs.RegexTokens.{TokenPart, enclosed_tokens, joined, tokens_of}
 use Rattle.gc_regx.specs.Expressions.{IsFormed, IsLong, IsExpression}
-use Rattle.gc_print.proofs.Lexing.{Lexes, lexes_token}
+use Rattle.gc_print.proofs.Lexing.{Lexes}
 use Rattle.gc_print.proofs.LexedTexts.{ends_word, is_dense, lexes_word, lexes_colon, lexes_low_line, lexes_minus, lexes_bang, lexes_tilde, lexes_star, lexes_bar, lexes_open, lexes_close, lexes_space}
 
 -- a text begins with no separator, and has these tokens before those of whatever ends a word

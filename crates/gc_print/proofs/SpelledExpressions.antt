@@ -1,5 +1,5 @@
 -- The tokens of regular path expressions spell them.
-use Rattle.std.proofs.Common.{◌≡◌, ℕ, zero, suc, ◌+◌, ◌<◌, ◌≤◌, Bool, true, false, nat_lt, List, [], ◌∷◌, ◌++◌, map, Option, Some, None, refl, sym, ap, subst, ◌∙◌, arith, cond, ◌-◌, zero-add, append_assoc}
+use Rattle.std.proofs.Common.{◌≡◌, ℕ, zero, suc, ◌+◌, ◌<◌, ◌≤◌, Bool, true, false, nat_lt, List, [], ◌∷◌, ◌++◌, map, Some, None, refl, sym, ap, subst, ◌∙◌, arith, cond, ◌-◌, zero-add, append_assoc}
 use Rattle.std.specs.List.{flat_map}
 use Rattle.std.proofs.lemmas.Bool.Decides.{nat_tests}
 use Rattle.std.proofs.lemmas.List.{append-nil}
@@ -11,7 +11,7 @@ use Rattle.gc_regx.specs.Trees.{Kind, RegexTree, ARegex, ARow, Label, Back, Any,
 use Rattle.gc_ast.specs.Trees.{Named}
 use Rattle.gc_grammar.specs.Words.{Point, Lang, next, IsName, this, that, several, many, ◌▸◌}
 use Rattle.gc_grammar.specs.Words as words
-use Rattle.gc_grammar.specs.Regexes.{Expression, plain, label, any, test, view, group, atom, star, cat, alt, regex_within, chained}
+use Rattle.gc_grammar.specs.Regexes.{Expression, plain, atom, star, cat, alt, regex_within, chained}
 use Rattle.gc_grammar.specs.Queries.{SpellsRegex, start}
 use Rattle.gc_grammar.proofs.Spellings.{spells_mark, spells_word, spells_name, spells_label, spells_inside}
 use Rattle.gc_print.specs.LooseTrees.{looseness_of, rank}
