@@ -147,14 +147,16 @@ impl Making<'_> {
     pub(crate) fn read_graph(&self, var: Sym) -> Option<&Graph>
         ensures { option_copied result ≡ read_graph self.now.setting var }
     {
-        own_graph(self.setting.reads, self.setting.graphs, var)
+        let setting = self.setting;
+        own_graph(setting.reads, setting.graphs, var)
     }
 
     /// The graph in which the elements on a variable's walk are read, if it has one.
     pub(crate) fn along_graph(&self, var: Sym) -> Option<&Graph>
         ensures { option_copied result ≡ along_graph self.now.setting var }
     {
-        walk_graph(self.setting.reads, self.setting.graphs, var)
+        let setting = self.setting;
+        walk_graph(setting.reads, setting.graphs, var)
     }
 
     /// The graph of a number.
