@@ -29,7 +29,12 @@ pub(crate) fn start_of<L: Ledger>(
         None => Ok(blank(setting.alloc)),
         Some(var) => {
             let datum = datum_at(setting, var, first(places));
-            described_in(setting.alloc, own_graph(setting.reads, setting.graphs, var), datum, steps)
+            described_in(
+                setting.alloc,
+                own_graph(setting.reads, setting.graphs, var),
+                datum,
+                steps,
+            )
         }
     }
 }
