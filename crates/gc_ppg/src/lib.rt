@@ -14,8 +14,6 @@ mod places;
 mod search;
 mod shape;
 mod tested;
-#[cfg(test)]
-mod tests;
 
 pub use builder::{BuildRefusal, GraphBuilder};
 pub use coherence::Coherence;

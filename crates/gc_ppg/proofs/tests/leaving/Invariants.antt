@@ -1,4 +1,0 @@
-use Rattle.gc_ppg.proofs.tests.leaving.Given as goal
-
-abbrev pub ghosts-leaving_by : goal.ghosts-leaving_by
-ghosts-leaving_by a = record { name = a.blank.name; parts = a.blank.parts }
