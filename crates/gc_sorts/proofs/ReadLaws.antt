@@ -6,7 +6,7 @@ use Rattle.std.specs.Option.{option_or}
 use Rattle.indexmap.specs.IndexMap.{insert_entry}
 use Rattle.std.specs.Cmp.{nat_eq_equiv}
 use Rattle.std.proofs.lemmas.Bool.Decides.{eqb_tells}
-use Rattle.gc_sorts.specs.Collected.{Collected, collect, number_of, with_first, with_number}
+use Rattle.gc_sorts.specs.Collected.{Collected, collect, nothing, number_of, with_first, with_number}
 use Rattle.gc_sorts.specs.Occurrences.{Occurrence, Occurrences, GraphName, ViewName, Unnamed, none, one, both}
 use Rattle.gc_sorts.specs.Reads.{graph_at, view_at, hidden_from, unnamed_count}
 use Rattle.gc_sorts.specs.Scopes.{graph_number, view_number}
@@ -99,3 +99,13 @@ hidden_read c (both left right) token =
     ∙ ap (λ n. option_or (number_of (collect c left).hidden token) (hidden_from n right token)) (next_is c left)
     ∙ ap (λ o. option_or o (hidden_from (c.next + unnamed_count left) right token)) (hidden_read c left token)
     ∙ or_assoc (number_of c.hidden token) (hidden_from c.next left token) (hidden_from (c.next + unnamed_count left) right token)
+
+-- what stands at a token by what was kept of all occurrences
+pub graph_kept : (found : Collected) (names : ℕ) (o : Occurrences) (token : ℕ) → found ≡ collect (nothing names) o → number_of found.graphs token ≡ graph_at o token
+graph_kept found names o token is = ap (λ (f : Collected). number_of f.graphs token) is ∙ graphs_read (nothing names) o token
+
+pub view_kept : (found : Collected) (names : ℕ) (o : Occurrences) (token : ℕ) → found ≡ collect (nothing names) o → number_of found.views token ≡ view_at o token
+view_kept found names o token is = ap (λ (f : Collected). number_of f.views token) is ∙ views_read (nothing names) o token
+
+pub hidden_kept : (found : Collected) (names : ℕ) (o : Occurrences) (token : ℕ) → found ≡ collect (nothing names) o → number_of found.hidden token ≡ hidden_from names o token
+hidden_kept found names o token is = ap (λ (f : Collected). number_of f.hidden token) is ∙ hidden_read (nothing names) o token

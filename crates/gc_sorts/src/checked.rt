@@ -1,15 +1,19 @@
 ghost use Rattle.std.specs.Prelude.{◌≡◌, length, None};
 ghost use Rattle.std.specs.Option.{option_map};
+ghost use Rattle.gc_expr.specs.Views.{name_of};
 ghost use Rattle.gc_ast.specs.QueryViews.{file_trees};
 ghost use Rattle.gc_ast.specs.Trees.{row};
+ghost use Rattle.gc_sorts.specs.Blocks.{file_blocks, places_by, sort_in};
 ghost use Rattle.gc_sorts.specs.Collected.{collect, nothing};
 ghost use Rattle.gc_sorts.specs.Occurrences.{file_occurrences};
 ghost use Rattle.gc_sorts.specs.Reads.{graph_at, view_at, hidden_from};
 ghost use Rattle.gc_sorts.specs.SortRules.{first_breach};
 
+use crate::block_sorts::BlockSorts;
 use crate::found::Found;
+use crate::sort::Sort;
 use gc_ast::File;
-use gc_base::{NameList, Sym, ViewNo};
+use gc_base::{BlockNo, NameList, Sym, ViewNo};
 
 /// A query file that breaks no sort rule over graphs of the names that it keeps, with what stands at its
 /// tokens.
@@ -18,8 +22,10 @@ pub struct Checked {
     file: File,
     graphs: NameList,
     found: Found,
+    sorts: BlockSorts,
     pub ghost unbroken: { first_breach graphs (row (file_trees file)) ≡ None },
     pub ghost all_found: { found ≡ collect (nothing (length file.names)) (file_occurrences graphs (row (file_trees file))) },
+    pub ghost all_blocks: { places_by file.names sorts ≡ file_blocks (row (file_trees file)) },
 }
 
 impl Checked {
@@ -67,10 +73,21 @@ impl Checked {
         }
     }
 
-    // The file, which breaks no rule over graphs of these names, with what stands at its tokens.
-    pub(crate) fn of(file: File, graphs: NameList, found: Found) -> Checked
+    /// The sort of a variable with a name in a block, if the block has or sees it: that of its first place
+    /// there. Blocks are numbered in text order, those of a MATCH with its OPTIONAL blocks as one, and the
+    /// chains of a PATH as one.
+    pub fn sort(&self, block: BlockNo, name: Sym) -> Option<Sort>
+        ensures { result ≡ sort_in (file_blocks (row (file_trees self.now.file))) block.0 (name_of self.now.file.names name) }
+    {
+        self.sorts.sort(&self.file.names, block, name)
+    }
+
+    // The file, which breaks no rule over graphs of these names, with what stands at its tokens, and with
+    // its blocks.
+    pub(crate) fn of(file: File, graphs: NameList, found: Found, sorts: BlockSorts) -> Checked
         requires unbroken { first_breach graphs (row (file_trees file)) ≡ None }
         requires all_found { found ≡ collect (nothing (length file.names)) (file_occurrences graphs (row (file_trees file))) }
+        requires all_blocks { places_by file.names sorts ≡ file_blocks (row (file_trees file)) }
         ensures file { result.file ≡ file }
         ensures graphs { result.graphs ≡ graphs }
     {
@@ -78,6 +95,7 @@ impl Checked {
             file,
             graphs,
             found,
+            sorts,
         }
     }
 }

@@ -2,10 +2,13 @@ ghost use Rattle.std.specs.Prelude.{◌≡◌, length, None, Some, Ok, Err, IfOk
 ghost use Rattle.gc_ast.specs.QueryViews.{file_trees};
 ghost use Rattle.gc_ast.specs.Trees.{row};
 ghost use Rattle.gc_sorts.specs.SortRules.{first_breach};
+ghost use Rattle.gc_sorts.specs.Blocks.{file_blocks, places_by};
 ghost use Rattle.gc_sorts.specs.Collected.{collect, nothing};
 ghost use Rattle.gc_sorts.specs.Occurrences.{file_occurrences};
 ghost use Rattle.gc_sorts.specs.Checks.{IsChecked, token_place};
 
+use crate::block_sorts::BlockSorts;
+use crate::blocking::blocks_in;
 use crate::breach::Breach;
 use crate::checked::Checked;
 use crate::found::Found;
@@ -37,19 +40,25 @@ fn kept(alloc: Global, file: File, graphs: &NameList) -> Result<Checked, SortRef
     ensures { IsChecked file graphs.now (first_breach graphs.now (row (file_trees file))) result }
 {
     match read(alloc, &file, graphs) {
-        Ok((names, found)) => Ok(Checked::of(file, names, found)),
+        Ok((names, found, sorts)) => Ok(Checked::of(file, names, found, sorts)),
         Err(Memory) => Err(SortRefusal::Memory),
     }
 }
 
-// A copy of the names, and what stands at the tokens of a file over graphs of these names.
-fn read(alloc: Global, file: &File, graphs: &NameList) -> Result<(NameList, Found), Memory>
+// A copy of the names, what stands at the tokens of a file over graphs of these names, and its blocks.
+fn read(
+    alloc: Global,
+    file: &File,
+    graphs: &NameList,
+) -> Result<(NameList, Found, BlockSorts), Memory>
     ensures names { IfOk result (λ all. all.0 ≡ graphs.now) }
     ensures found { IfOk result (λ all. all.1 ≡ collect (nothing (length file.now.names)) (file_occurrences graphs.now (row (file_trees file.now)))) }
+    ensures sorts { IfOk result (λ all. places_by file.now.names all.2 ≡ file_blocks (row (file_trees file.now))) }
 {
     let names = graphs.copy()?;
     let found = found_in(alloc, file, graphs)?;
-    Ok((names, found))
+    let sorts = blocks_in(alloc, file)?;
+    Ok((names, found, sorts))
 }
 
 // The place of the token of a breach.
