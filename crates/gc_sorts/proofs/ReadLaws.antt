@@ -1,10 +1,8 @@
 -- What stands at a token by the numbers that were kept is what stands there by the occurrences.
-use Rattle.std.proofs.Common.{◌≡◌, ℕ, ◌+◌, Bool, true, false, List, [], ◌∷◌, Option, Some, None, refl, sym, ap, ◌∙◌, nat_eq, arith}
+use Rattle.std.proofs.Common.{◌≡◌, ℕ, ◌+◌, Bool, true, false, List, [], ◌∷◌, Option, Some, None, refl, sym, ap, ◌∙◌, nat_eq, arith, inl, inr}
 use Rattle.std.specs.Prelude.{is_some, if◌then◌else◌}
-use Rattle.std.specs.Map.{lookup}
 use Rattle.std.specs.Option.{option_or}
 use Rattle.indexmap.specs.IndexMap.{insert_entry}
-use Rattle.std.specs.Cmp.{nat_eq_equiv}
 use Rattle.std.proofs.lemmas.Bool.Decides.{eqb_tells}
 use Rattle.gc_sorts.specs.Collected.{Collected, collect, nothing, number_of, with_first, with_number}
 use Rattle.gc_sorts.specs.Occurrences.{Occurrence, Occurrences, GraphName, ViewName, Unnamed, none, one, both}
@@ -27,31 +25,36 @@ abbrev told : ℕ → ℕ → ℕ → Option ℕ
 told token at number = if nat_eq token at then Some number else None
 
 -- a pair that is put in behind the others
-inserted : (pairs : List (ℕ × ℕ)) (at number token : ℕ) → is_some (number_of pairs at) ≡ false
-    → number_of (insert_entry nat_eq pairs at number) token ≡ option_or (number_of pairs token) (told token at number)
-inserted [] at number token absent = refl
-inserted (e ∷ pairs) at number token absent = by (nat_eq at e.0) refl absent
-  where
-    later : (b : Bool) → nat_eq token e.0 ≡ b → is_some (number_of pairs at) ≡ false
-        → number_of (e ∷ insert_entry nat_eq pairs at number) token ≡ option_or (number_of (e ∷ pairs) token) (told token at number)
-    later true same gone = rw (same) refl
-    later false other gone = rw (other) (inserted pairs at number token gone)
+abbrev IsInserted : List (ℕ × ℕ) → (at number token : ℕ) → Type 0
+IsInserted pairs at number token =
+    number_of (insert_entry nat_eq pairs at number) token ≡ option_or (number_of pairs token) (told token at number)
 
-    by : (b : Bool) → nat_eq at e.0 ≡ b → is_some (if b then Some e.1 else number_of pairs at) ≡ false
+inserted : (pairs : List (ℕ × ℕ)) (at number token : ℕ) → is_some (number_of pairs at) ≡ false → IsInserted pairs at number token
+inserted [] at number token absent = refl
+inserted (e ∷ pairs) at number token absent = by (λ gone. inserted pairs at number token gone) (nat_eq at e.0) refl absent
+  where
+    later : (b : Bool) → nat_eq token e.0 ≡ b → IsInserted pairs at number token
+        → number_of (e ∷ insert_entry nat_eq pairs at number) token ≡ option_or (number_of (e ∷ pairs) token) (told token at number)
+    later true same rest = rw (same) refl
+    later false other rest = rw (other) rest
+
+    by : (is_some (number_of pairs at) ≡ false → IsInserted pairs at number token) → (b : Bool) → nat_eq at e.0 ≡ b
+        → is_some (if b then Some e.1 else number_of pairs at) ≡ false
         → number_of (if b then (e.0, number) ∷ pairs else e ∷ insert_entry nat_eq pairs at number) token ≡ option_or (number_of (e ∷ pairs) token) (told token at number)
-    by true same gone = cc
-    by false other gone = later (nat_eq token e.0) refl gone
+    by rest true same gone = cc
+    by rest false other gone = later (nat_eq token e.0) refl (rest gone)
 
 -- the number of a token, where another one was given a number unless it had one
 first_told : (pairs : List (ℕ × ℕ)) (at number token : ℕ) → number_of (with_first pairs at number) token ≡ option_or (number_of pairs token) (told token at number)
 first_told pairs at number token = by (is_some (number_of pairs at)) refl
   where
-    kept : (b : Bool) → nat_eq token at ≡ b → is_some (number_of pairs at) ≡ true → number_of pairs token ≡ option_or (number_of pairs token) (if b then Some number else None)
-    kept true same has = let e : token ≡ at = omega (arith, eqb_tells token at, same) in sym (or_some (number_of pairs token) (Some number) (ap (λ t. is_some (number_of pairs t)) e ∙ has))
-    kept false other has = sym (or_none (number_of pairs token))
-
     by : (b : Bool) → is_some (number_of pairs at) ≡ b → number_of (if b then pairs else insert_entry nat_eq pairs at number) token ≡ option_or (number_of pairs token) (told token at number)
-    by true has = kept (nat_eq token at) refl has
+    by true has = elim (eqb_tells token at) [
+      | inl h ↦
+          sym (ap (λ b. option_or (number_of pairs token) (if b then Some number else None)) h.0
+          ∙ or_some (number_of pairs token) (Some number) (ap (λ t. is_some (number_of pairs t)) h.1 ∙ has))
+      | inr h ↦ sym (ap (λ b. option_or (number_of pairs token) (if b then Some number else None)) h.0 ∙ or_none (number_of pairs token))
+    ]
     by false absent = inserted pairs at number token absent
 
 number_told : (pairs : List (ℕ × ℕ)) (at : ℕ) (number : Option ℕ) (token : ℕ)

@@ -1,4 +1,4 @@
-ghost use Rattle.std.specs.Prelude.{◌≡◌, ◌++◌, ◌∷◌, [], map, OnOk};
+ghost use Rattle.std.specs.Prelude.{◌≡◌, ◌++◌, ◌∷◌, [], map, slice_get, unwrap_or, OnOk};
 ghost use Rattle.std.specs.Option.{option_map};
 ghost use Rattle.gc_expr.specs.Views.{name_of};
 ghost use Rattle.gc_ast.specs.Names.{same_name};
@@ -51,9 +51,16 @@ impl BlockSorts {
     pub fn sort(&self, names: &NameTable, block: BlockNo, name: Sym) -> Option<Sort>
         ensures { result ≡ sort_in (places_by names.now self.now) block.0 (name_of names.now name) }
     {
+        sort_among(names, self.places(block), name)
+    }
+
+    // The places of a block; there are none where there is no such block.
+    fn places(&self, block: BlockNo) -> &[UseAt]
+        ensures { result.now ≡ unwrap_or (slice_get self.now block.0) [] }
+    {
         match self.blocks.get(block.0 as usize) {
-            None => None,
-            Some(places) => sort_among(names, places, name),
+            None => &[],
+            Some(places) => places,
         }
     }
 }
