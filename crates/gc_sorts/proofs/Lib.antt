@@ -9,3 +9,5 @@ pub mod OptionalTokens
 pub mod Chains
 pub mod RuleRows
 pub mod RuleTrees
+pub mod Readings
+pub mod ReadLaws

@@ -1,5 +1,7 @@
+pub mod Blocks
 pub mod Breaches
 pub mod Checks
+pub mod Collected
 pub mod Constructs
 pub mod Expressions
 pub mod Graphs
@@ -7,8 +9,11 @@ pub mod Holders
 pub mod Links
 pub mod Marks
 pub mod Matches
+pub mod Occurrences
 pub mod Orders
 pub mod Patterns
+pub mod Reads
+pub mod Scopes
 pub mod Sizes
 pub mod SortRules
 pub mod Uses

@@ -4,6 +4,8 @@
 #![tactic(auto)]
 
 mod basics;
+mod block_sorts;
+mod blocking;
 mod breach;
 mod checked;
 mod checker;
@@ -12,6 +14,7 @@ mod constructs;
 mod existence;
 mod expressions;
 mod form;
+mod found;
 mod graphs;
 mod index;
 mod laws;
@@ -21,15 +24,17 @@ mod makes;
 mod making;
 mod match_links;
 mod matches;
+mod numbers;
+mod occurring;
 mod patterns;
+mod reading;
 mod refusal;
 mod rules;
+mod sight;
 mod sizes;
 mod sort;
 mod standing;
 mod statements;
-#[cfg(test)]
-mod tests;
 mod tokens;
 mod uses;
 mod variables;

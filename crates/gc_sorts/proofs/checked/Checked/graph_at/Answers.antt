@@ -1,0 +1,10 @@
+use Rattle.std.proofs.Common.{◌∙◌, length}
+use Rattle.gc_ast.specs.QueryViews.{file_trees}
+use Rattle.gc_ast.specs.Trees.{row}
+use Rattle.gc_sorts.specs.Occurrences.{file_occurrences}
+use Rattle.gc_sorts.proofs.ReadLaws.{graph_kept}
+use Rattle.gc_sorts.proofs.checked.Checked.graph_at.Goals as goal
+
+pub returns : goal.returns
+returns c =
+    c.get.ensures ∙ graph_kept c.args.self.now.found (length c.args.self.now.file.names) (file_occurrences c.args.self.now.graphs (row (file_trees c.args.self.now.file))) c.args.token c.args.self.now.all_found
