@@ -113,7 +113,8 @@ fn row_ends(
     target: Sym,
     element: &Element,
 ) -> Result<Option<Ends>, Memory>
-    ensures { IfOk result (λ ends. ends ≡ both_ends (identity_at making.now source (unwrap_or (slice_get element.now.group.rows 0) 0)) (identity_at making.now target (unwrap_or (slice_get element.now.group.rows 0) 0))) }
+    ensures { IfOk result (λ ends. ends ≡ both_ends (identity_at making.now source (unwrap_or (slice_get element.now.group.rows 0) 0))
+        (identity_at making.now target (unwrap_or (slice_get element.now.group.rows 0) 0))) }
 {
     let place = first_row(element);
     let from = making.identity_at(source, place)?;

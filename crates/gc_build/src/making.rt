@@ -29,7 +29,13 @@ impl<'a> Model for Making<'a> {
 
     ghost Value = { Making };
 
-    ghost view = { λ m. record { setting = m.setting.now; variables = m.variables.now; numbered = m.numbered.now; described = m.described.now; next = m.next } };
+    ghost view = { λ m. record {
+      setting = m.setting.now;
+      variables = m.variables.now;
+      numbered = m.numbered.now;
+      described = m.described.now;
+      next = m.next;
+    } };
 }
 
 impl Making<'_> {

@@ -90,7 +90,8 @@ fn add<'a>(
     how: Fold,
     operand: &'a Option<Box<Expr>>,
 ) -> Result<(), Memory>
-    ensures { OnOk result (map plain found.new.items ≡ map plain found.old.items ++ record { how = how; operand = maybe (unboxed (λ e. numbered_expr e.value) operand.now) } ∷ []) }
+    ensures { OnOk result (map plain found.new.items ≡ map plain found.old.items
+        ++ record { how = how; operand = maybe (unboxed (λ e. numbered_expr e.value) operand.now) } ∷ []) }
 {
     let operand = match operand {
         None => None,

@@ -58,7 +58,8 @@ impl Placed<'_> {
         steps: &mut Steps<L>,
     ) -> Result<Option<Key>, Memory>
         requires { readers.now ≡ terms_of variable.now.grouping }
-        ensures { IfOk result (λ key. key ≡ key_by self.now.setting.now self.now.before.now variable.now.var variable.now.grouping self.now.place self.now.row.now) }
+        ensures { IfOk result (λ key. key ≡ key_by self.now.setting.now self.now.before.now variable.now.var variable.now.grouping self.now.place
+            self.now.row.now) }
     {
         let setting = self.setting;
         let alloc = setting.alloc;

@@ -46,7 +46,8 @@ fn assigns<F: Fn(u32) -> FormulaRead>(
     formulas: &F,
 ) -> Result<(AssignList, u32), Refusal>
     requires { ReadsFormulas source.now room (F.pre formulas.now) (F.post formulas.now) }
-    ensures { Gives (λ assigns. map (assign_tree source.now.names) assigns.items) source.now.tokens result (read_assigns room (nested (room - 1)) (bare at) (drop at source.now.tokens)) }
+    ensures { Gives (λ assigns. map (assign_tree source.now.names) assigns.items) source.now.tokens result
+        (read_assigns room (nested (room - 1)) (bare at) (drop at source.now.tokens)) }
 {
     let at = source.mark(at, Mark::OpenBrace)?;
     let (first, at) = assign(source, room, at, formulas)?;
@@ -64,7 +65,9 @@ fn later_assigns<F: Fn(u32) -> FormulaRead>(
     formulas: &F,
 ) -> Result<(AssignList, u32), Refusal>
     requires { ReadsFormulas source.now room (F.pre formulas.now) (F.post formulas.now) }
-    ensures { Gives (λ assigns. map (assign_tree source.now.names) assigns.items) source.now.tokens result (in_front (assign_tree source.now.names first ∷ []) (read_many (mark_kind mark.Comma ∷ []) (read_behind (read_mark mark.Comma) (read_assign room (nested (room - 1)))) room (bare from) (drop from source.now.tokens))) }
+    ensures { Gives (λ assigns. map (assign_tree source.now.names) assigns.items) source.now.tokens result
+        (in_front (assign_tree source.now.names first ∷ []) (read_many (mark_kind mark.Comma ∷ [])
+        (read_behind (read_mark mark.Comma) (read_assign room (nested (room - 1)))) room (bare from) (drop from source.now.tokens))) }
 {
     let mut assigns = one(source.alloc(), first)?;
     let mut at = from;
@@ -87,7 +90,8 @@ fn later_assign<F: Fn(u32) -> FormulaRead>(
     formulas: &F,
 ) -> Result<(Assign, u32), Refusal>
     requires { ReadsFormulas source.now room (F.pre formulas.now) (F.post formulas.now) }
-    ensures { Gives (assign_tree source.now.names) source.now.tokens result (read_behind (read_mark mark.Comma) (read_assign room (nested (room - 1))) (bare at) (drop at source.now.tokens)) }
+    ensures { Gives (assign_tree source.now.names) source.now.tokens result
+        (read_behind (read_mark mark.Comma) (read_assign room (nested (room - 1))) (bare at) (drop at source.now.tokens)) }
 {
     let at = source.mark(at, Mark::Comma)?;
     let (assign, at) = assign(source, room, at, formulas)?;
@@ -103,7 +107,8 @@ pub(crate) fn assigns_if<F: Fn(u32) -> FormulaRead>(
     formulas: &F,
 ) -> Result<(Option<AssignList>, u32), Refusal>
     requires { ReadsFormulas source.now room (F.pre formulas.now) (F.post formulas.now) }
-    ensures { Gives (λ found. option_map (λ assigns. map (assign_tree source.now.names) assigns.items) found) source.now.tokens result (read_assigns_if room (nested (room - 1)) (bare at) (drop at source.now.tokens)) }
+    ensures { Gives (λ found. option_map (λ assigns. map (assign_tree source.now.names) assigns.items) found) source.now.tokens result
+        (read_assigns_if room (nested (room - 1)) (bare at) (drop at source.now.tokens)) }
 {
     if !source.is_at(at, Mark::OpenBrace) {
         return Ok((None, at));
@@ -131,7 +136,8 @@ fn set_property<F: Fn(u32) -> FormulaRead>(
     formulas: &F,
 ) -> Result<(Change, u32), Refusal>
     requires { ReadsFormulas source.now room (F.pre formulas.now) (F.post formulas.now) }
-    ensures { Gives (change_tree source.now.names) source.now.tokens result (read_set_property room (nested (room - 1)) (bare at) (drop at source.now.tokens)) }
+    ensures { Gives (change_tree source.now.names) source.now.tokens result
+        (read_set_property room (nested (room - 1)) (bare at) (drop at source.now.tokens)) }
 {
     let at = source.the_word(at, "SET")?;
     let (target, at) = source.name(at)?;
@@ -176,7 +182,9 @@ pub(crate) fn subs<F: Fn(u32) -> FormulaRead>(
     formulas: &F,
 ) -> Result<(ChangeList, u32), Refusal>
     requires { ReadsFormulas source.now room (F.pre formulas.now) (F.post formulas.now) }
-    ensures { Gives (λ changes. map (change_tree source.now.names) changes.items) source.now.tokens result (read_many (word_kind (codes "SET") ∷ word_kind (codes "REMOVE") ∷ []) (read_sub room (nested (room - 1))) room (bare from) (drop from source.now.tokens)) }
+    ensures { Gives (λ changes. map (change_tree source.now.names) changes.items) source.now.tokens result
+        (read_many (word_kind (codes "SET") ∷ word_kind (codes "REMOVE") ∷ []) (read_sub room (nested (room - 1))) room (bare from)
+        (drop from source.now.tokens)) }
 {
     let mut changes = Vec::new(source.alloc());
     let mut at = from;

@@ -47,7 +47,9 @@ fn later_terms(
     from: u32,
     first: GroupTerm,
 ) -> Result<(GroupTermList, u32), Refusal>
-    ensures { Gives (λ terms. map (group_term_tree source.now.names) terms) source.now.tokens result (in_front (group_term_tree source.now.names first ∷ []) (read_many (mark_kind mark.Comma ∷ []) (read_behind (read_mark mark.Comma) read_group_term) room (bare from) (drop from source.now.tokens))) }
+    ensures { Gives (λ terms. map (group_term_tree source.now.names) terms) source.now.tokens result
+        (in_front (group_term_tree source.now.names first ∷ []) (read_many (mark_kind mark.Comma ∷ [])
+        (read_behind (read_mark mark.Comma) read_group_term) room (bare from) (drop from source.now.tokens))) }
 {
     let mut terms = alone(source.alloc(), first)?;
     let mut at = from;
@@ -64,7 +66,8 @@ fn later_terms(
 
 // `,` gterm
 fn later_term(source: &Source, at: u32) -> Result<(GroupTerm, u32), Refusal>
-    ensures { Gives (group_term_tree source.now.names) source.now.tokens result (read_behind (read_mark mark.Comma) read_group_term (bare at) (drop at source.now.tokens)) }
+    ensures { Gives (group_term_tree source.now.names) source.now.tokens result
+        (read_behind (read_mark mark.Comma) read_group_term (bare at) (drop at source.now.tokens)) }
 {
     let at = source.mark(at, Mark::Comma)?;
     group_term(source, at)

@@ -22,7 +22,8 @@ pub fn condition_if<F: Fn(u32) -> FormulaRead>(
 ) -> Result<(Option<Formula>, u32), Refusal>
     requires reserved { is_reserved word.now ≡ true }
     requires formulas { ReadsFormulas source.now room (F.pre formulas.now) (F.post formulas.now) }
-    ensures { Gives (λ condition. option_map (formula_tree source.now.names) condition) source.now.tokens result (read_condition_if word.now room (nested (room - 1)) (bare at) (drop at source.now.tokens)) }
+    ensures { Gives (λ condition. option_map (formula_tree source.now.names) condition) source.now.tokens result
+        (read_condition_if word.now room (nested (room - 1)) (bare at) (drop at source.now.tokens)) }
 {
     if !source.is_word_at(at, word) {
         return Ok((None, at));

@@ -91,7 +91,8 @@ fn cchain<F: Fn(u32) -> FormulaRead>(
     formulas: &F,
 ) -> Result<(ConstructPartList, u32), Refusal>
     requires { ReadsFormulas source.now room (F.pre formulas.now) (F.post formulas.now) }
-    ensures { Gives (λ parts. map (part_tree source.now.names) parts.items) source.now.tokens result (read_cchain room (nested (room - 1)) (bare at) (drop at source.now.tokens)) }
+    ensures { Gives (λ parts. map (part_tree source.now.names) parts.items) source.now.tokens result
+        (read_cchain room (nested (room - 1)) (bare at) (drop at source.now.tokens)) }
 {
     let (first, at) = cnode(source, room, at, formulas)?;
     let (parts, at) = linked_parts(source, room, at, first, formulas)?;
@@ -107,7 +108,9 @@ fn linked_parts<F: Fn(u32) -> FormulaRead>(
     formulas: &F,
 ) -> Result<(ConstructPartList, u32), Refusal>
     requires { ReadsFormulas source.now room (F.pre formulas.now) (F.post formulas.now) }
-    ensures { Gives (λ parts. map (part_tree source.now.names) parts.items) source.now.tokens result (in_front_in_turn (part_tree source.now.names first ∷ []) (read_many link_kinds (read_both (read_clink room (nested (room - 1))) (read_cnode room (nested (room - 1)))) room (bare from) (drop from source.now.tokens))) }
+    ensures { Gives (λ parts. map (part_tree source.now.names) parts.items) source.now.tokens result
+        (in_front_in_turn (part_tree source.now.names first ∷ []) (read_many link_kinds
+        (read_both (read_clink room (nested (room - 1))) (read_cnode room (nested (room - 1)))) room (bare from) (drop from source.now.tokens))) }
 {
     let mut parts = one(source.alloc(), first)?;
     let mut at = from;
@@ -131,7 +134,8 @@ fn link_and_node<F: Fn(u32) -> FormulaRead>(
     formulas: &F,
 ) -> Result<((ConstructPart, ConstructPart), u32), Refusal>
     requires { ReadsFormulas source.now room (F.pre formulas.now) (F.post formulas.now) }
-    ensures { Gives (λ linked. (part_tree source.now.names linked.0, part_tree source.now.names linked.1)) source.now.tokens result (read_both (read_clink room (nested (room - 1))) (read_cnode room (nested (room - 1))) (bare at) (drop at source.now.tokens)) }
+    ensures { Gives (λ linked. (part_tree source.now.names linked.0, part_tree source.now.names linked.1)) source.now.tokens result
+        (read_both (read_clink room (nested (room - 1))) (read_cnode room (nested (room - 1))) (bare at) (drop at source.now.tokens)) }
 {
     let (link, at) = clink(source, room, at, formulas)?;
     let (node, at) = cnode(source, room, at, formulas)?;
@@ -181,7 +185,8 @@ pub fn items<F: Fn(u32) -> FormulaRead>(
     formulas: &F,
 ) -> Result<(ItemList, u32), Refusal>
     requires { ReadsFormulas source.now room (F.pre formulas.now) (F.post formulas.now) }
-    ensures { Gives (λ items. map (item_tree source.now.names) items.items) source.now.tokens result (read_separated (mark_kind mark.Comma ∷ []) (read_item room (nested (room - 1))) (read_mark mark.Comma) room (bare at) (drop at source.now.tokens)) }
+    ensures { Gives (λ items. map (item_tree source.now.names) items.items) source.now.tokens result
+        (read_separated (mark_kind mark.Comma ∷ []) (read_item room (nested (room - 1))) (read_mark mark.Comma) room (bare at) (drop at source.now.tokens)) }
 {
     let (first, at) = item(source, room, at, formulas)?;
     let (items, at) = later_items(source, room, at, first, formulas)?;
@@ -197,7 +202,9 @@ fn later_items<F: Fn(u32) -> FormulaRead>(
     formulas: &F,
 ) -> Result<(ItemList, u32), Refusal>
     requires { ReadsFormulas source.now room (F.pre formulas.now) (F.post formulas.now) }
-    ensures { Gives (λ items. map (item_tree source.now.names) items.items) source.now.tokens result (in_front (item_tree source.now.names first ∷ []) (read_many (mark_kind mark.Comma ∷ []) (read_behind (read_mark mark.Comma) (read_item room (nested (room - 1)))) room (bare from) (drop from source.now.tokens))) }
+    ensures { Gives (λ items. map (item_tree source.now.names) items.items) source.now.tokens result
+        (in_front (item_tree source.now.names first ∷ []) (read_many (mark_kind mark.Comma ∷ [])
+        (read_behind (read_mark mark.Comma) (read_item room (nested (room - 1)))) room (bare from) (drop from source.now.tokens))) }
 {
     let mut items = one(source.alloc(), first)?;
     let mut at = from;
@@ -220,7 +227,8 @@ fn later_item<F: Fn(u32) -> FormulaRead>(
     formulas: &F,
 ) -> Result<(Item, u32), Refusal>
     requires { ReadsFormulas source.now room (F.pre formulas.now) (F.post formulas.now) }
-    ensures { Gives (item_tree source.now.names) source.now.tokens result (read_behind (read_mark mark.Comma) (read_item room (nested (room - 1))) (bare at) (drop at source.now.tokens)) }
+    ensures { Gives (item_tree source.now.names) source.now.tokens result
+        (read_behind (read_mark mark.Comma) (read_item room (nested (room - 1))) (bare at) (drop at source.now.tokens)) }
 {
     let at = source.mark(at, Mark::Comma)?;
     let (item, at) = item(source, room, at, formulas)?;

@@ -28,7 +28,8 @@ use std::alloc::Global;
 
 // [ `=` name ]
 fn copy_if(source: &Source, at: u32) -> Result<(Option<NameAt>, u32), Refusal>
-    ensures { Gives (named_if source.now.names) source.now.tokens result (read_optional (mark_kind mark.Equals ∷ []) (read_behind (read_mark mark.Equals) read_name) (bare at) (drop at source.now.tokens)) }
+    ensures { Gives (named_if source.now.names) source.now.tokens result
+        (read_optional (mark_kind mark.Equals ∷ []) (read_behind (read_mark mark.Equals) read_name) (bare at) (drop at source.now.tokens)) }
 {
     if !source.is_at(at, Mark::Equals) {
         return Ok((None, at));
@@ -40,7 +41,8 @@ fn copy_if(source: &Source, at: u32) -> Result<(Option<NameAt>, u32), Refusal>
 
 // [ `GROUP` gterm { `,` gterm } ]
 fn group_if(source: &Source, room: u64, at: u32) -> Result<(Option<GroupTermList>, u32), Refusal>
-    ensures { Gives (λ found. option_map (λ terms. map (group_term_tree source.now.names) terms) found) source.now.tokens result (read_optional (word_kind (codes "GROUP") ∷ []) (read_group room) (bare at) (drop at source.now.tokens)) }
+    ensures { Gives (λ found. option_map (λ terms. map (group_term_tree source.now.names) terms) found) source.now.tokens result
+        (read_optional (word_kind (codes "GROUP") ∷ []) (read_group room) (bare at) (drop at source.now.tokens)) }
 {
     if !source.is_word_at(at, "GROUP") {
         return Ok((None, at));
@@ -68,7 +70,8 @@ fn celement<F: Fn(u32) -> FormulaRead>(
     formulas: &F,
 ) -> Result<(NewPlainElement, u32), Refusal>
     requires { ReadsFormulas source.now room (F.pre formulas.now) (F.post formulas.now) }
-    ensures { Gives (new_plain_element_view source.now.names) source.now.tokens result (read_celement room (nested (room - 1)) (bare at) (drop at source.now.tokens)) }
+    ensures { Gives (new_plain_element_view source.now.names) source.now.tokens result
+        (read_celement room (nested (room - 1)) (bare at) (drop at source.now.tokens)) }
 {
     let (name, at) = source.name_if(at)?;
     let (copy, at) = copy_if(source, at)?;
@@ -126,7 +129,8 @@ fn new_edge_on<F: Fn(u32) -> FormulaRead>(
     formulas: &F,
 ) -> Result<((NewPlainElement, Direction), u32), Refusal>
     requires { ReadsFormulas source.now room (F.pre formulas.now) (F.post formulas.now) }
-    ensures { Gives (new_edge_view source.now.names) source.now.tokens result (read_edge_on (read_celement room (nested (room - 1))) (bare at) (drop at source.now.tokens)) }
+    ensures { Gives (new_edge_view source.now.names) source.now.tokens result
+        (read_edge_on (read_celement room (nested (room - 1))) (bare at) (drop at source.now.tokens)) }
 {
     let at = source.mark(at, Mark::Minus)?;
     let at = source.mark(at, Mark::OpenBracket)?;
@@ -149,7 +153,8 @@ fn new_edge_back<F: Fn(u32) -> FormulaRead>(
     formulas: &F,
 ) -> Result<((NewPlainElement, Direction), u32), Refusal>
     requires { ReadsFormulas source.now room (F.pre formulas.now) (F.post formulas.now) }
-    ensures { Gives (new_edge_view source.now.names) source.now.tokens result (read_edge_back (read_celement room (nested (room - 1))) (bare at) (drop at source.now.tokens)) }
+    ensures { Gives (new_edge_view source.now.names) source.now.tokens result
+        (read_edge_back (read_celement room (nested (room - 1))) (bare at) (drop at source.now.tokens)) }
 {
     let at = source.mark(at, Mark::Less)?;
     let at = source.mark(at, Mark::Minus)?;
@@ -169,7 +174,8 @@ fn new_edge_of<F: Fn(u32) -> FormulaRead>(
     formulas: &F,
 ) -> Result<((NewPlainElement, Direction), u32), Refusal>
     requires { ReadsFormulas source.now room (F.pre formulas.now) (F.post formulas.now) }
-    ensures { Gives (new_edge_view source.now.names) source.now.tokens result (read_edge_of (read_celement room (nested (room - 1))) (bare at) (drop at source.now.tokens)) }
+    ensures { Gives (new_edge_view source.now.names) source.now.tokens result
+        (read_edge_of (read_celement room (nested (room - 1))) (bare at) (drop at source.now.tokens)) }
 {
     if source.is_at(at, Mark::Minus) {
         new_edge_on(source, room, at, formulas)

@@ -30,7 +30,8 @@ pub(crate) fn multiplied(
     first: Expr,
     rest: ProductPartList,
 ) -> Result<Expr, Memory>
-    ensures { IfOk result (λ e. (names : Names) → expr_tree names e ≡ multiplied_tree token (expr_tree names first) (map (product_part_tree names) rest.items)) }
+    ensures { IfOk result (λ e. (names : Names) → expr_tree names e ≡ multiplied_tree token (expr_tree names first)
+        (map (product_part_tree names) rest.items)) }
 {
     if rest.is_empty() {
         return Ok(first);

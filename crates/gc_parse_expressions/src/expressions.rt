@@ -51,7 +51,9 @@ fn later_alternatives<Q: Fn(u64, u32) -> QueryRead>(
 ) -> Result<(ExprList, u32), Refusal>
     requires room { 0 < room }
     requires queries { ReadsQueries source.now room (Q.pre queries.now) (Q.post queries.now) }
-    ensures { ReadsWith (λ parts. map (expr_tree source.now.names) parts.items) source.now from exists.old.items exists.new.items result (λ start ts. in_front (expr_tree source.now.names first ∷ []) (read_many (word_kind (codes "OR") ∷ []) (read_behind (read_the_word (codes "OR")) (read_and room (nested (room - 1)))) room start ts)) }
+    ensures { ReadsWith (λ parts. map (expr_tree source.now.names) parts.items) source.now from exists.old.items exists.new.items result
+        (λ start ts. in_front (expr_tree source.now.names first ∷ []) (read_many (word_kind (codes "OR") ∷ [])
+        (read_behind (read_the_word (codes "OR")) (read_and room (nested (room - 1)))) room start ts)) }
 {
     let mut parts = one(source.alloc(), first)?;
     let mut at = from;
@@ -77,7 +79,8 @@ fn later_alternative<Q: Fn(u64, u32) -> QueryRead>(
 ) -> Result<(Expr, u32), Refusal>
     requires room { 0 < room }
     requires queries { ReadsQueries source.now room (Q.pre queries.now) (Q.post queries.now) }
-    ensures { ReadsWith (expr_tree source.now.names) source.now at exists.old.items exists.new.items result (read_behind (read_the_word (codes "OR")) (read_and room (nested (room - 1)))) }
+    ensures { ReadsWith (expr_tree source.now.names) source.now at exists.old.items exists.new.items result
+        (read_behind (read_the_word (codes "OR")) (read_and room (nested (room - 1)))) }
 {
     let at = source.the_word(at, "OR")?;
     conjunction(source, room, at, exists, queries)
@@ -115,7 +118,9 @@ fn later_conditions<Q: Fn(u64, u32) -> QueryRead>(
 ) -> Result<(ExprList, u32), Refusal>
     requires room { 0 < room }
     requires queries { ReadsQueries source.now room (Q.pre queries.now) (Q.post queries.now) }
-    ensures { ReadsWith (λ parts. map (expr_tree source.now.names) parts.items) source.now from exists.old.items exists.new.items result (λ start ts. in_front (expr_tree source.now.names first ∷ []) (read_many (word_kind (codes "AND") ∷ []) (read_behind (read_the_word (codes "AND")) (read_not room (nested (room - 1)))) room start ts)) }
+    ensures { ReadsWith (λ parts. map (expr_tree source.now.names) parts.items) source.now from exists.old.items exists.new.items result
+        (λ start ts. in_front (expr_tree source.now.names first ∷ []) (read_many (word_kind (codes "AND") ∷ [])
+        (read_behind (read_the_word (codes "AND")) (read_not room (nested (room - 1)))) room start ts)) }
 {
     let mut parts = one(source.alloc(), first)?;
     let mut at = from;
@@ -141,7 +146,8 @@ fn later_condition<Q: Fn(u64, u32) -> QueryRead>(
 ) -> Result<(Expr, u32), Refusal>
     requires room { 0 < room }
     requires queries { ReadsQueries source.now room (Q.pre queries.now) (Q.post queries.now) }
-    ensures { ReadsWith (expr_tree source.now.names) source.now at exists.old.items exists.new.items result (read_behind (read_the_word (codes "AND")) (read_not room (nested (room - 1)))) }
+    ensures { ReadsWith (expr_tree source.now.names) source.now at exists.old.items exists.new.items result
+        (read_behind (read_the_word (codes "AND")) (read_not room (nested (room - 1)))) }
 {
     let at = source.the_word(at, "AND")?;
     negation(source, room, at, exists, queries)
@@ -225,7 +231,8 @@ fn later_sum_parts<Q: Fn(u64, u32) -> QueryRead>(
 ) -> Result<(SumPartList, u32), Refusal>
     requires room { 0 < room }
     requires queries { ReadsQueries source.now room (Q.pre queries.now) (Q.post queries.now) }
-    ensures { ReadsWith (λ parts. map (sum_part_tree source.now.names) parts.items) source.now from exists.old.items exists.new.items result (λ start ts. in_front [] (read_many (mark_kind mark.Plus ∷ mark_kind mark.Minus ∷ []) (read_sum_part room (nested (room - 1))) room start ts)) }
+    ensures { ReadsWith (λ parts. map (sum_part_tree source.now.names) parts.items) source.now from exists.old.items exists.new.items result
+        (λ start ts. in_front [] (read_many (mark_kind mark.Plus ∷ mark_kind mark.Minus ∷ []) (read_sum_part room (nested (room - 1))) room start ts)) }
 {
     let mut parts = Vec::new(source.alloc());
     let mut at = from;
@@ -290,7 +297,8 @@ fn later_product_parts<Q: Fn(u64, u32) -> QueryRead>(
 ) -> Result<(ProductPartList, u32), Refusal>
     requires room { 0 < room }
     requires queries { ReadsQueries source.now room (Q.pre queries.now) (Q.post queries.now) }
-    ensures { ReadsWith (λ parts. map (product_part_tree source.now.names) parts.items) source.now from exists.old.items exists.new.items result (λ start ts. in_front [] (read_many product_kinds (read_product_part (nested (room - 1))) room start ts)) }
+    ensures { ReadsWith (λ parts. map (product_part_tree source.now.names) parts.items) source.now from exists.old.items exists.new.items result
+        (λ start ts. in_front [] (read_many product_kinds (read_product_part (nested (room - 1))) room start ts)) }
 {
     let mut parts = Vec::new(source.alloc());
     let mut at = from;

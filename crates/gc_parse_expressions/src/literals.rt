@@ -14,7 +14,8 @@ use gc_parse_source::{Refusal, Source};
 
 // A number.
 pub(crate) fn number(source: &Source, at: u32) -> Result<(Expr, u32), Refusal>
-    ensures { (queries : List (Tree AQuery)) → GivesWith (expr_tree source.now.names) queries source.now.tokens result (read_made read_number (λ n v. At n (tree.Number v)) (point at queries) (drop at source.now.tokens)) }
+    ensures { (queries : List (Tree AQuery)) → GivesWith (expr_tree source.now.names) queries source.now.tokens result
+        (read_made read_number (λ n v. At n (tree.Number v)) (point at queries) (drop at source.now.tokens)) }
 {
     let (number, next) = source.number(at)?;
     Ok((Expr::number(at, number), next))
@@ -22,7 +23,8 @@ pub(crate) fn number(source: &Source, at: u32) -> Result<(Expr, u32), Refusal>
 
 // A text.
 pub(crate) fn text(source: &Source, at: u32) -> Result<(Expr, u32), Refusal>
-    ensures { (queries : List (Tree AQuery)) → GivesWith (expr_tree source.now.names) queries source.now.tokens result (read_made read_text (λ n v. At n (tree.Text v)) (point at queries) (drop at source.now.tokens)) }
+    ensures { (queries : List (Tree AQuery)) → GivesWith (expr_tree source.now.names) queries source.now.tokens result
+        (read_made read_text (λ n v. At n (tree.Text v)) (point at queries) (drop at source.now.tokens)) }
 {
     let (text, next) = source.text(at)?;
     Ok((Expr::text(at, text), next))
@@ -30,7 +32,8 @@ pub(crate) fn text(source: &Source, at: u32) -> Result<(Expr, u32), Refusal>
 
 // `TRUE`
 pub(crate) fn yes(source: &Source, at: u32) -> Result<(Expr, u32), Refusal>
-    ensures { (queries : List (Tree AQuery)) → GivesWith (expr_tree source.now.names) queries source.now.tokens result (read_made (read_the_word (codes "TRUE")) (λ n v. At n (tree.Truth true)) (point at queries) (drop at source.now.tokens)) }
+    ensures { (queries : List (Tree AQuery)) → GivesWith (expr_tree source.now.names) queries source.now.tokens result
+        (read_made (read_the_word (codes "TRUE")) (λ n v. At n (tree.Truth true)) (point at queries) (drop at source.now.tokens)) }
 {
     let next = source.the_word(at, "TRUE")?;
     Ok((Expr::truth(at, true), next))
@@ -38,7 +41,8 @@ pub(crate) fn yes(source: &Source, at: u32) -> Result<(Expr, u32), Refusal>
 
 // `FALSE`
 pub(crate) fn no(source: &Source, at: u32) -> Result<(Expr, u32), Refusal>
-    ensures { (queries : List (Tree AQuery)) → GivesWith (expr_tree source.now.names) queries source.now.tokens result (read_made (read_the_word (codes "FALSE")) (λ n v. At n (tree.Truth false)) (point at queries) (drop at source.now.tokens)) }
+    ensures { (queries : List (Tree AQuery)) → GivesWith (expr_tree source.now.names) queries source.now.tokens result
+        (read_made (read_the_word (codes "FALSE")) (λ n v. At n (tree.Truth false)) (point at queries) (drop at source.now.tokens)) }
 {
     let next = source.the_word(at, "FALSE")?;
     Ok((Expr::truth(at, false), next))
@@ -46,7 +50,8 @@ pub(crate) fn no(source: &Source, at: u32) -> Result<(Expr, u32), Refusal>
 
 // A variable.
 pub(crate) fn variable(source: &Source, at: u32) -> Result<(Expr, u32), Refusal>
-    ensures { (queries : List (Tree AQuery)) → GivesWith (expr_tree source.now.names) queries source.now.tokens result (read_made read_name (λ n v. At n (tree.Var v.name)) (point at queries) (drop at source.now.tokens)) }
+    ensures { (queries : List (Tree AQuery)) → GivesWith (expr_tree source.now.names) queries source.now.tokens result
+        (read_made read_name (λ n v. At n (tree.Var v.name)) (point at queries) (drop at source.now.tokens)) }
 {
     let (name, next) = source.name(at)?;
     Ok((Expr::var(at, name.sym), next))
@@ -55,7 +60,8 @@ pub(crate) fn variable(source: &Source, at: u32) -> Result<(Expr, u32), Refusal>
 #[tactic(auto, unfolding(gc_parse_readers::specs::ExpressionReaders::read_length, gc_parse_readers::specs::ExpressionReaders::read_in_parentheses))]
 // `length` `(` name `)`
 pub(crate) fn length_of(source: &Source, at: u32) -> Result<(Expr, u32), Refusal>
-    ensures { (queries : List (Tree AQuery)) → GivesWith (expr_tree source.now.names) queries source.now.tokens result (read_length (point at queries) (drop at source.now.tokens)) }
+    ensures { (queries : List (Tree AQuery)) → GivesWith (expr_tree source.now.names) queries source.now.tokens result
+        (read_length (point at queries) (drop at source.now.tokens)) }
 {
     let token = at;
     let at = source.the_word(at, "length")?;
@@ -68,7 +74,8 @@ pub(crate) fn length_of(source: &Source, at: u32) -> Result<(Expr, u32), Refusal
 #[tactic(auto, unfolding(gc_parse_readers::specs::ExpressionReaders::read_rows, gc_parse_readers::specs::ExpressionReaders::read_in_parentheses))]
 // `COUNT` `(` `*` `)`
 pub(crate) fn rows(source: &Source, at: u32) -> Result<(Expr, u32), Refusal>
-    ensures { (queries : List (Tree AQuery)) → GivesWith (expr_tree source.now.names) queries source.now.tokens result (read_rows (point at queries) (drop at source.now.tokens)) }
+    ensures { (queries : List (Tree AQuery)) → GivesWith (expr_tree source.now.names) queries source.now.tokens result
+        (read_rows (point at queries) (drop at source.now.tokens)) }
 {
     let token = at;
     let at = source.the_word(at, "COUNT")?;

@@ -13,7 +13,8 @@ use gc_parse_source::{Refusal, Source};
 #[tactic(auto, unfolding(gc_parse_readers::specs::ExpressionReaders::read_sign))]
 // `+` | `-`, which is true
 pub(crate) fn sign(source: &Source, at: u32) -> Result<(bool, u32), Refusal>
-    ensures { (queries : List (Tree AQuery)) → GivesWith (λ s. s) queries source.now.tokens result (read_sign (point at queries) (drop at source.now.tokens)) }
+    ensures { (queries : List (Tree AQuery)) → GivesWith (λ s. s) queries source.now.tokens result
+        (read_sign (point at queries) (drop at source.now.tokens)) }
 {
     if source.is_at(at, Mark::Plus) {
         let at = source.mark(at, Mark::Plus)?;
@@ -27,7 +28,8 @@ pub(crate) fn sign(source: &Source, at: u32) -> Result<(bool, u32), Refusal>
 #[tactic(auto, unfolding(gc_parse_readers::specs::ExpressionReaders::read_product_op))]
 // `*` | `/` | `%`
 pub(crate) fn product_op(source: &Source, at: u32) -> Result<(ProductOp, u32), Refusal>
-    ensures { (queries : List (Tree AQuery)) → GivesWith (λ op. op) queries source.now.tokens result (read_product_op (point at queries) (drop at source.now.tokens)) }
+    ensures { (queries : List (Tree AQuery)) → GivesWith (λ op. op) queries source.now.tokens result
+        (read_product_op (point at queries) (drop at source.now.tokens)) }
 {
     if source.is_at(at, Mark::Star) {
         let at = source.mark(at, Mark::Star)?;
@@ -44,7 +46,8 @@ pub(crate) fn product_op(source: &Source, at: u32) -> Result<(ProductOp, u32), R
 #[tactic(auto, unfolding(gc_parse_readers::specs::ExpressionReaders::read_comparison))]
 // `=` | `<>` | `<` | `<=` | `>` | `>=` | `IN` | `SUBSET`
 pub(crate) fn comparison(source: &Source, at: u32) -> Result<(Comparison, u32), Refusal>
-    ensures { (queries : List (Tree AQuery)) → GivesWith (λ how. how) queries source.now.tokens result (read_comparison (point at queries) (drop at source.now.tokens)) }
+    ensures { (queries : List (Tree AQuery)) → GivesWith (λ how. how) queries source.now.tokens result
+        (read_comparison (point at queries) (drop at source.now.tokens)) }
 {
     if source.is_at(at, Mark::Equals) {
         Ok((Comparison::Equal, source.mark(at, Mark::Equals)?))
@@ -68,7 +71,8 @@ pub(crate) fn comparison(source: &Source, at: u32) -> Result<(Comparison, u32), 
 #[tactic(auto, unfolding(gc_parse_readers::specs::ExpressionReaders::read_folding))]
 // `COUNT` | `SUM` | `MIN` | `MAX` | `COLLECT`
 pub(crate) fn folding(source: &Source, at: u32) -> Result<(Fold, u32), Refusal>
-    ensures { (queries : List (Tree AQuery)) → GivesWith (λ fold. fold) queries source.now.tokens result (read_folding (point at queries) (drop at source.now.tokens)) }
+    ensures { (queries : List (Tree AQuery)) → GivesWith (λ fold. fold) queries source.now.tokens result
+        (read_folding (point at queries) (drop at source.now.tokens)) }
 {
     if source.is_word_at(at, "COUNT") {
         Ok((Fold::Count, source.the_word(at, "COUNT")?))

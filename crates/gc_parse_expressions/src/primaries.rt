@@ -224,7 +224,8 @@ fn node_at<Q: Fn(u64, u32) -> QueryRead>(
 ) -> Result<(Expr, u32), Refusal>
     requires room { 0 < room }
     requires queries { ReadsQueries source.now room (Q.pre queries.now) (Q.post queries.now) }
-    ensures { ReadsWith (expr_tree source.now.names) source.now at exists.old.items exists.new.items result (read_indexed (codes "nodes") tree.NodeAt (nested (room - 1))) }
+    ensures { ReadsWith (expr_tree source.now.names) source.now at exists.old.items exists.new.items result
+        (read_indexed (codes "nodes") tree.NodeAt (nested (room - 1))) }
 {
     let token = at;
     let at = source.the_word(at, "nodes")?;
@@ -247,7 +248,8 @@ fn edge_at<Q: Fn(u64, u32) -> QueryRead>(
 ) -> Result<(Expr, u32), Refusal>
     requires room { 0 < room }
     requires queries { ReadsQueries source.now room (Q.pre queries.now) (Q.post queries.now) }
-    ensures { ReadsWith (expr_tree source.now.names) source.now at exists.old.items exists.new.items result (read_indexed (codes "edges") tree.EdgeAt (nested (room - 1))) }
+    ensures { ReadsWith (expr_tree source.now.names) source.now at exists.old.items exists.new.items result
+        (read_indexed (codes "edges") tree.EdgeAt (nested (room - 1))) }
 {
     let token = at;
     let at = source.the_word(at, "edges")?;
@@ -269,7 +271,8 @@ fn index<Q: Fn(u64, u32) -> QueryRead>(
 ) -> Result<(Expr, u32), Refusal>
     requires room { 0 < room }
     requires queries { ReadsQueries source.now room (Q.pre queries.now) (Q.post queries.now) }
-    ensures { ReadsWith (expr_tree source.now.names) source.now at exists.old.items exists.new.items result (read_before (read_behind (read_mark mark.OpenBracket) (nested (room - 1)).expr) (read_mark mark.CloseBracket)) }
+    ensures { ReadsWith (expr_tree source.now.names) source.now at exists.old.items exists.new.items result
+        (read_before (read_behind (read_mark mark.OpenBracket) (nested (room - 1)).expr) (read_mark mark.CloseBracket)) }
 {
     let at = source.mark(at, Mark::OpenBracket)?;
     let (expr, at) = inner_expression(source, room, at, exists, queries)?;

@@ -37,7 +37,8 @@ fn property_use(source: &Source, at: u32) -> Result<(PropertyUse, u32), Refusal>
 #[tactic(auto, unfolding(gc_parse_readers::specs::PatternReaders::read_property_uses))]
 // `{` word `=` name { `,` word `=` name } `}`
 fn property_uses(source: &Source, room: u64, at: u32) -> Result<(PropertyUseList, u32), Refusal>
-    ensures { Gives (λ uses. map (property_use_tree source.now.names) uses) source.now.tokens result (read_property_uses room (bare at) (drop at source.now.tokens)) }
+    ensures { Gives (λ uses. map (property_use_tree source.now.names) uses) source.now.tokens result
+        (read_property_uses room (bare at) (drop at source.now.tokens)) }
 {
     let at = source.mark(at, Mark::OpenBrace)?;
     let (first, at) = property_use(source, at)?;
@@ -53,7 +54,9 @@ fn later_uses(
     from: u32,
     first: PropertyUse,
 ) -> Result<(PropertyUseList, u32), Refusal>
-    ensures { Gives (λ uses. map (property_use_tree source.now.names) uses) source.now.tokens result (in_front (property_use_tree source.now.names first ∷ []) (read_many (mark_kind mark.Comma ∷ []) (read_behind (read_mark mark.Comma) read_property_use) room (bare from) (drop from source.now.tokens))) }
+    ensures { Gives (λ uses. map (property_use_tree source.now.names) uses) source.now.tokens result
+        (in_front (property_use_tree source.now.names first ∷ []) (read_many (mark_kind mark.Comma ∷ [])
+        (read_behind (read_mark mark.Comma) read_property_use) room (bare from) (drop from source.now.tokens))) }
 {
     let mut uses = alone(source.alloc(), first)?;
     let mut at = from;
@@ -70,7 +73,8 @@ fn later_uses(
 
 // `,` word `=` name
 fn later_use(source: &Source, at: u32) -> Result<(PropertyUse, u32), Refusal>
-    ensures { Gives (property_use_tree source.now.names) source.now.tokens result (read_behind (read_mark mark.Comma) read_property_use (bare at) (drop at source.now.tokens)) }
+    ensures { Gives (property_use_tree source.now.names) source.now.tokens result
+        (read_behind (read_mark mark.Comma) read_property_use (bare at) (drop at source.now.tokens)) }
 {
     let at = source.mark(at, Mark::Comma)?;
     let (used, at) = property_use(source, at)?;

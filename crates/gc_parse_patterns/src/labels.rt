@@ -28,7 +28,9 @@ fn later_words(
     from: u32,
     first: Name,
 ) -> Result<(NameList, u32), Refusal>
-    ensures { Gives (λ words. map (λ w. w) words) source.now.tokens result (in_front (first ∷ []) (read_many (mark_kind mark.Bar ∷ []) (read_behind (read_mark mark.Bar) read_word) room (bare from) (drop from source.now.tokens))) }
+    ensures { Gives (λ words. map (λ w. w) words) source.now.tokens result
+        (in_front (first ∷ []) (read_many (mark_kind mark.Bar ∷ []) (read_behind (read_mark mark.Bar) read_word) room (bare from)
+        (drop from source.now.tokens))) }
 {
     let mut words = alone(source.alloc(), first)?;
     let mut at = from;
@@ -64,7 +66,8 @@ pub(crate) fn label_groups(
 
 #[tactic(auto, unfolding(gc_parse_readers::specs::PatternReaders::read_label_groups))]
 fn many_labels(source: &Source, room: u64, from: u32) -> Result<(LabelGroupList, u32), Refusal>
-    ensures { Gives (λ groups. map (λ g. g) groups) source.now.tokens result (in_front [] (read_label_groups room (bare from) (drop from source.now.tokens))) }
+    ensures { Gives (λ groups. map (λ g. g) groups) source.now.tokens result
+        (in_front [] (read_label_groups room (bare from) (drop from source.now.tokens))) }
 {
     let mut groups = Sequence::new(source.alloc());
     let mut at = from;

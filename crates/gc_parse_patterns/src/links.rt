@@ -29,7 +29,8 @@ fn link(source: &Source, room: u64, at: u32) -> Result<(Pattern, u32), Refusal>
 #[tactic(auto, unfolding(gc_parse_readers::specs::PatternReaders::read_vchain, gc_parse_readers::specs::PatternReaders::read_linked))]
 // vchain = node { edge node }
 pub(crate) fn vchain(source: &Source, room: u64, at: u32) -> Result<(Chain, u32), Refusal>
-    ensures { Gives (λ (c : Chain). map (pattern_tree source.now.names) c.parts) source.now.tokens result (read_vchain room (bare at) (drop at source.now.tokens)) }
+    ensures { Gives (λ (c : Chain). map (pattern_tree source.now.names) c.parts) source.now.tokens result
+        (read_vchain room (bare at) (drop at source.now.tokens)) }
 {
     let (first, at) = node(source, room, at)?;
     let (parts, at) = later_edges(source, room, at, first)?;
@@ -43,7 +44,9 @@ fn later_edges(
     from: u32,
     first: Pattern,
 ) -> Result<(PatternList, u32), Refusal>
-    ensures { Gives (λ parts. map (pattern_tree source.now.names) parts) source.now.tokens result (in_front_in_turn (pattern_tree source.now.names first ∷ []) (read_many link_kinds (read_both (read_edge room) (read_node room)) room (bare from) (drop from source.now.tokens))) }
+    ensures { Gives (λ parts. map (pattern_tree source.now.names) parts) source.now.tokens result
+        (in_front_in_turn (pattern_tree source.now.names first ∷ []) (read_many link_kinds (read_both (read_edge room) (read_node room)) room
+        (bare from) (drop from source.now.tokens))) }
 {
     let mut parts = alone(source.alloc(), first)?;
     let mut at = from;
@@ -61,7 +64,8 @@ fn later_edges(
 
 // edge node
 fn edge_and_node(source: &Source, room: u64, at: u32) -> Result<((Pattern, Pattern), u32), Refusal>
-    ensures { Gives (pair_tree source.now.names) source.now.tokens result (read_both (read_edge room) (read_node room) (bare at) (drop at source.now.tokens)) }
+    ensures { Gives (pair_tree source.now.names) source.now.tokens result
+        (read_both (read_edge room) (read_node room) (bare at) (drop at source.now.tokens)) }
 {
     let (edge, at) = edge(source, room, at)?;
     let (node, at) = node(source, room, at)?;
@@ -71,7 +75,8 @@ fn edge_and_node(source: &Source, room: u64, at: u32) -> Result<((Pattern, Patte
 #[tactic(auto, unfolding(gc_parse_readers::specs::PatternReaders::read_chain, gc_parse_readers::specs::PatternReaders::read_linked))]
 // chain = node { (edge | path) node }
 fn chain(source: &Source, room: u64, at: u32) -> Result<(Chain, u32), Refusal>
-    ensures { Gives (λ (c : Chain). map (pattern_tree source.now.names) c.parts) source.now.tokens result (read_chain room (bare at) (drop at source.now.tokens)) }
+    ensures { Gives (λ (c : Chain). map (pattern_tree source.now.names) c.parts) source.now.tokens result
+        (read_chain room (bare at) (drop at source.now.tokens)) }
 {
     let (first, at) = node(source, room, at)?;
     let (parts, at) = later_links(source, room, at, first)?;
@@ -85,7 +90,9 @@ fn later_links(
     from: u32,
     first: Pattern,
 ) -> Result<(PatternList, u32), Refusal>
-    ensures { Gives (λ parts. map (pattern_tree source.now.names) parts) source.now.tokens result (in_front_in_turn (pattern_tree source.now.names first ∷ []) (read_many link_kinds (read_both (read_link room) (read_node room)) room (bare from) (drop from source.now.tokens))) }
+    ensures { Gives (λ parts. map (pattern_tree source.now.names) parts) source.now.tokens result
+        (in_front_in_turn (pattern_tree source.now.names first ∷ []) (read_many link_kinds (read_both (read_link room) (read_node room)) room
+        (bare from) (drop from source.now.tokens))) }
 {
     let mut parts = alone(source.alloc(), first)?;
     let mut at = from;
@@ -103,7 +110,8 @@ fn later_links(
 
 // (edge | path) node
 fn link_and_node(source: &Source, room: u64, at: u32) -> Result<((Pattern, Pattern), u32), Refusal>
-    ensures { Gives (pair_tree source.now.names) source.now.tokens result (read_both (read_link room) (read_node room) (bare at) (drop at source.now.tokens)) }
+    ensures { Gives (pair_tree source.now.names) source.now.tokens result
+        (read_both (read_link room) (read_node room) (bare at) (drop at source.now.tokens)) }
 {
     let (link, at) = link(source, room, at)?;
     let (node, at) = node(source, room, at)?;

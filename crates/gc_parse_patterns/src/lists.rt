@@ -14,7 +14,8 @@ use gc_parse_source::{Refusal, Source, alone};
 
 /// The patterns of a MATCH: located { `,` located }
 pub fn patterns(source: &Source, room: u64, at: u32) -> Result<(LocatedList, u32), Refusal>
-    ensures { Gives (λ patterns. map (located_tree source.now.names) patterns) source.now.tokens result (read_separated (mark_kind mark.Comma ∷ []) (read_located room) (read_mark mark.Comma) room (bare at) (drop at source.now.tokens)) }
+    ensures { Gives (λ patterns. map (located_tree source.now.names) patterns) source.now.tokens result
+        (read_separated (mark_kind mark.Comma ∷ []) (read_located room) (read_mark mark.Comma) room (bare at) (drop at source.now.tokens)) }
 {
     let (first, at) = located(source, room, at)?;
     let (patterns, at) = later_located(source, room, at, first)?;
@@ -28,7 +29,9 @@ fn later_located(
     from: u32,
     first: Located,
 ) -> Result<(LocatedList, u32), Refusal>
-    ensures { Gives (λ patterns. map (located_tree source.now.names) patterns) source.now.tokens result (in_front (located_tree source.now.names first ∷ []) (read_many (mark_kind mark.Comma ∷ []) (read_behind (read_mark mark.Comma) (read_located room)) room (bare from) (drop from source.now.tokens))) }
+    ensures { Gives (λ patterns. map (located_tree source.now.names) patterns) source.now.tokens result
+        (in_front (located_tree source.now.names first ∷ []) (read_many (mark_kind mark.Comma ∷ [])
+        (read_behind (read_mark mark.Comma) (read_located room)) room (bare from) (drop from source.now.tokens))) }
 {
     let mut patterns = alone(source.alloc(), first)?;
     let mut at = from;
@@ -45,7 +48,8 @@ fn later_located(
 
 // `,` located
 fn next_located(source: &Source, room: u64, at: u32) -> Result<(Located, u32), Refusal>
-    ensures { Gives (located_tree source.now.names) source.now.tokens result (read_behind (read_mark mark.Comma) (read_located room) (bare at) (drop at source.now.tokens)) }
+    ensures { Gives (located_tree source.now.names) source.now.tokens result
+        (read_behind (read_mark mark.Comma) (read_located room) (bare at) (drop at source.now.tokens)) }
 {
     let at = source.mark(at, Mark::Comma)?;
     let (pattern, at) = located(source, room, at)?;
@@ -54,7 +58,8 @@ fn next_located(source: &Source, room: u64, at: u32) -> Result<(Located, u32), R
 
 /// The chains of a PATH: vchain { `,` vchain }
 pub fn path_chains(source: &Source, room: u64, at: u32) -> Result<(ChainList, u32), Refusal>
-    ensures { Gives (λ chains. map (λ c. map (pattern_tree source.now.names) c.parts) chains) source.now.tokens result (read_separated (mark_kind mark.Comma ∷ []) (read_vchain room) (read_mark mark.Comma) room (bare at) (drop at source.now.tokens)) }
+    ensures { Gives (λ chains. map (λ c. map (pattern_tree source.now.names) c.parts) chains) source.now.tokens result
+        (read_separated (mark_kind mark.Comma ∷ []) (read_vchain room) (read_mark mark.Comma) room (bare at) (drop at source.now.tokens)) }
 {
     let (first, at) = vchain(source, room, at)?;
     let (chains, at) = later_chains(source, room, at, first)?;
@@ -68,7 +73,9 @@ fn later_chains(
     from: u32,
     first: Chain,
 ) -> Result<(ChainList, u32), Refusal>
-    ensures { Gives (λ chains. map (λ c. map (pattern_tree source.now.names) c.parts) chains) source.now.tokens result (in_front (map (pattern_tree source.now.names) first.parts ∷ []) (read_many (mark_kind mark.Comma ∷ []) (read_behind (read_mark mark.Comma) (read_vchain room)) room (bare from) (drop from source.now.tokens))) }
+    ensures { Gives (λ chains. map (λ c. map (pattern_tree source.now.names) c.parts) chains) source.now.tokens result
+        (in_front (map (pattern_tree source.now.names) first.parts ∷ [])
+        (read_many (mark_kind mark.Comma ∷ []) (read_behind (read_mark mark.Comma) (read_vchain room)) room (bare from) (drop from source.now.tokens))) }
 {
     let mut chains = alone(source.alloc(), first)?;
     let mut at = from;
@@ -85,7 +92,8 @@ fn later_chains(
 
 // `,` vchain
 fn later_chain(source: &Source, room: u64, at: u32) -> Result<(Chain, u32), Refusal>
-    ensures { Gives (λ (c : Chain). map (pattern_tree source.now.names) c.parts) source.now.tokens result (read_behind (read_mark mark.Comma) (read_vchain room) (bare at) (drop at source.now.tokens)) }
+    ensures { Gives (λ (c : Chain). map (pattern_tree source.now.names) c.parts) source.now.tokens result
+        (read_behind (read_mark mark.Comma) (read_vchain room) (bare at) (drop at source.now.tokens)) }
 {
     let at = source.mark(at, Mark::Comma)?;
     let (chain, at) = vchain(source, room, at)?;

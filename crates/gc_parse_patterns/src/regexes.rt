@@ -44,7 +44,9 @@ fn later_branches(
     first: Part,
 ) -> Result<(Vec<Part>, u32), Refusal>
     requires { 0 < room }
-    ensures { Gives (λ parts. parts_view source.now.names parts.items) source.now.tokens result (in_front (part_view source.now.names first ∷ []) (read_many (mark_kind mark.Bar ∷ []) (read_behind (read_mark mark.Bar) (read_cat room (read_regex (room - 1)))) room (bare from) (drop from source.now.tokens))) }
+    ensures { Gives (λ parts. parts_view source.now.names parts.items) source.now.tokens result
+        (in_front (part_view source.now.names first ∷ []) (read_many (mark_kind mark.Bar ∷ [])
+        (read_behind (read_mark mark.Bar) (read_cat room (read_regex (room - 1)))) room (bare from) (drop from source.now.tokens))) }
 {
     let mut parts = one(source.alloc(), first)?;
     let mut at = from;
@@ -63,7 +65,8 @@ fn later_branches(
 #[cycle(regex)]
 fn later_branch(source: &Source, room: u64, at: u32) -> Result<(Part, u32), Refusal>
     requires { 0 < room }
-    ensures { Gives (part_view source.now.names) source.now.tokens result (read_behind (read_mark mark.Bar) (read_cat room (read_regex (room - 1))) (bare at) (drop at source.now.tokens)) }
+    ensures { Gives (part_view source.now.names) source.now.tokens result
+        (read_behind (read_mark mark.Bar) (read_cat room (read_regex (room - 1))) (bare at) (drop at source.now.tokens)) }
 {
     let at = source.mark(at, Mark::Bar)?;
     juxtaposed(source, room, at)
@@ -90,7 +93,9 @@ fn later_parts(
     first: Part,
 ) -> Result<(Vec<Part>, u32), Refusal>
     requires { 0 < room }
-    ensures { Gives (λ parts. parts_view source.now.names parts.items) source.now.tokens result (in_front (part_view source.now.names first ∷ []) (read_many part_kinds (read_star (read_regex (room - 1))) room (bare from) (drop from source.now.tokens))) }
+    ensures { Gives (λ parts. parts_view source.now.names parts.items) source.now.tokens result
+        (in_front (part_view source.now.names first ∷ []) (read_many part_kinds (read_star (read_regex (room - 1))) room (bare from)
+        (drop from source.now.tokens))) }
 {
     let mut parts = one(source.alloc(), first)?;
     let mut at = from;

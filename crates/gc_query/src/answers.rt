@@ -79,7 +79,8 @@ fn block_answer<L: Ledger>(
     vars: &[Sym],
     steps: &mut Steps<L>,
 ) -> Result<Option<Graph>, Memory>
-    ensures { IfOk result (IsAnswering session.now.names.now session.now.graphs.now (asked_in (block_tree table.now main.now) (map (name_of table.now) vars.now))) }
+    ensures { IfOk result (IsAnswering session.now.names.now session.now.graphs.now
+        (asked_in (block_tree table.now main.now) (map (name_of table.now) vars.now))) }
 {
     if !are_nodes(session.alloc, table, main.patterns.as_slice(), vars)? {
         return Ok(None);

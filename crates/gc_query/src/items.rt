@@ -13,7 +13,8 @@ use std::alloc::Global;
 
 /// The variables of items, where each is a node's name alone.
 pub fn item_vars(alloc: Global, items: &[Item]) -> Result<Option<Vec<Sym>>, Memory>
-    ensures { (names : Names) → IfOk result (λ vars. option_map (λ v. map (name_of names) v.items) vars ≡ item_names (row (map (item_tree names) items.now))) }
+    ensures { (names : Names) → IfOk result (λ vars. option_map (λ v. map (name_of names) v.items) vars ≡ item_names
+        (row (map (item_tree names) items.now))) }
 {
     let mut vars = Vec::new(alloc);
     for item in items {

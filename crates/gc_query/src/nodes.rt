@@ -19,7 +19,8 @@ pub fn are_nodes(
     located: &[Located],
     vars: &[Sym],
 ) -> Result<bool, Memory>
-    ensures { IfOk result (λ all. all ≡ list_all (λ name. list_any (same_name name) (node_names (row (map (located_tree names.now) located.now)))) (map (name_of names.now) vars.now)) }
+    ensures { IfOk result (λ all. all ≡ list_all (λ name. list_any (same_name name) (node_names (row (map (located_tree names.now) located.now))))
+        (map (name_of names.now) vars.now)) }
 {
     let words = names.as_slice();
     let nodes = node_vars(alloc, located)?;
@@ -102,7 +103,8 @@ fn node_vars(alloc: Global, located: &[Located]) -> Result<Vec<Sym>, Memory>
 
 // Puts the variables of a chain's nodes behind others.
 fn push_chain(vars: &mut Vec<Sym>, parts: &[Pattern]) -> Result<(), Memory>
-    ensures { (names : Names) → OnOk result (map (name_of names) vars.new.items ≡ map (name_of names) vars.old.items ++ chain_names (row (map (pattern_tree names) parts.now))) }
+    ensures { (names : Names) → OnOk result (map (name_of names) vars.new.items ≡ map (name_of names) vars.old.items ++ chain_names
+        (row (map (pattern_tree names) parts.now))) }
 {
     for part in parts {
         push_node(vars, part)?;
@@ -111,7 +113,8 @@ fn push_chain(vars: &mut Vec<Sym>, parts: &[Pattern]) -> Result<(), Memory>
 }
 
 fn push_node(vars: &mut Vec<Sym>, part: &Pattern) -> Result<(), Memory>
-    ensures { (names : Names) → OnOk result (map (name_of names) vars.new.items ≡ map (name_of names) vars.old.items ++ pattern_names (pattern_tree names part.now)) }
+    ensures { (names : Names) → OnOk result (map (name_of names) vars.new.items ≡ map (name_of names) vars.old.items ++ pattern_names
+        (pattern_tree names part.now)) }
 {
     if let Pattern::Node(element) = part {
         if let Some(name) = element.name {
