@@ -1,6 +1,6 @@
 -- The blocks of a query file in text order, each with the places of the variables that it has or sees: a
 -- MATCH with its OPTIONAL blocks, and the chains of a PATH.
-use Rattle.std.specs.Prelude.{ℕ, List, [], ◌∷◌, ◌++◌, Option, map, slice_get, unwrap_or}
+use Rattle.std.specs.Prelude.{◌≡◌, ℕ, List, [], ◌∷◌, ◌++◌, Option, map, slice_get, unwrap_or}
 use Rattle.std.specs.Option.{option_map}
 use Rattle.gc_expr.specs.Views.{Names}
 use Rattle.gc_ast.specs.Trees as tree
@@ -9,7 +9,7 @@ use Rattle.gc_sorts.specs.declared.sort.Sort.{Sort}
 use Rattle.gc_sorts.specs.declared.sort.UseAt.{UseAt}
 use Rattle.gc_sorts.specs.SortRules.{match_uses}
 use Rattle.gc_sorts.specs.Uses.{all_of, located_uses, pattern_uses}
-use Rattle.gc_sorts.specs.Variables.{Use, use_by, sort_of, first_use}
+use Rattle.gc_sorts.specs.Variables.{Scope, Use, use_by, sort_of, first_use}
 
 -- blocks in text order: none, one with its places, or those of two parts
 pub data Blocks : Type 0 where
@@ -54,3 +54,7 @@ sort_in places number name = option_map (λ u. sort_of u.role) (first_use (unwra
 -- places with the bytes of their names
 abbrev pub places_by : Names → List (List UseAt) → List (List Use)
 places_by names places = map (map (use_by names)) places
+
+-- the blocks of a tree, by what the name table makes of it, are added to those of other trees
+abbrev pub AddsBlocks : {k : tree.Kind} → Scope → (Names → Tree k) → (old new : List (List UseAt)) → Type 0
+AddsBlocks seen tree old new = places_by seen.names new ≡ with_blocks (places_by seen.names old) (blocks seen.uses (tree seen.names))

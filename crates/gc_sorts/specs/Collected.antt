@@ -3,8 +3,9 @@ use Rattle.std.specs.Prelude.{ℕ, ◌+◌, List, [], Option, Some, None, nat_eq
 use Rattle.std.specs.Map.{lookup}
 use Rattle.indexmap.specs.IndexMap.{insert_entry}
 use Rattle.gc_expr.specs.Views.{Names}
-use Rattle.gc_sorts.specs.Occurrences.{Occurrence, Occurrences, GraphName, ViewName, Unnamed, none, one, both}
-use Rattle.gc_sorts.specs.Scopes.{Scope, graph_number, view_number}
+use Rattle.gc_ast.specs.Trees.{Kind, Tree}
+use Rattle.gc_sorts.specs.Occurrences.{Occurrence, Occurrences, GraphName, ViewName, Unnamed, none, one, both, occurrences}
+use Rattle.gc_sorts.specs.Scopes.{Scope, behind, graph_number, view_number}
 
 -- the number of a token among pairs of a token and its number
 abbrev pub number_of : List (ℕ × ℕ) → ℕ → Option ℕ
@@ -45,3 +46,11 @@ collect c (both left right) = collect (collect c left) right
 pub record HeldScope : Type 0 where
   pub names : Names
   pub at : Scope
+
+-- what is in scope behind a tree, by what the name table makes of it
+abbrev pub scope_behind : {k : Kind} → HeldScope → (Names → Tree k) → HeldScope
+scope_behind h tree = record { names = h.names; at = behind h.at (tree h.names) }
+
+-- what is kept with the occurrences of a tree
+abbrev pub read_in : {k : Kind} → Collected → HeldScope → (Names → Tree k) → Collected
+read_in c h tree = collect c (occurrences h.at (tree h.names))

@@ -3,7 +3,7 @@ ghost use Rattle.std.specs.Option.{option_map};
 ghost use Rattle.gc_ast.specs.PatternViews.{pattern_tree};
 ghost use Rattle.gc_ast.specs.QueryViews.{query_tree, head_tree, term_tree, next_term_tree, basic_tree, block_tree, optional_tree, formula_tree, statement_tree, file_trees};
 ghost use Rattle.gc_ast.specs.Trees.{row, rows, maybe};
-ghost use Rattle.gc_sorts.specs.Blocks.{blocks, with_blocks, file_blocks, places_by};
+ghost use Rattle.gc_sorts.specs.Blocks.{AddsBlocks, file_blocks, places_by};
 ghost use Rattle.gc_sorts.specs.SortRules.{match_uses};
 ghost use Rattle.gc_sorts.specs.Uses.{all_of, optional_uses, pattern_uses};
 
@@ -71,7 +71,7 @@ fn whole(
 #[cycle(blocking)]
 fn query(sorts: &mut BlockSorts, seen: &mut Variables, query: &Query) -> Result<(), Memory>
     ensures seen { OnOk result (seen.new ≡ seen.old) }
-    ensures sorts { OnOk result (places_by seen.old.names sorts.new ≡ with_blocks (places_by seen.old.names sorts.old) (blocks seen.old.uses (query_tree seen.old.names query.now))) }
+    ensures sorts { OnOk result (AddsBlocks seen.old (λ n. query_tree n query.now) sorts.old sorts.new) }
 {
     heads(sorts, seen, &query.heads)?;
     term(sorts, seen, &query.first)?;
@@ -82,7 +82,7 @@ fn query(sorts: &mut BlockSorts, seen: &mut Variables, query: &Query) -> Result<
 #[cycle(blocking)]
 fn heads(sorts: &mut BlockSorts, seen: &mut Variables, heads: &HeadList) -> Result<(), Memory>
     ensures seen { OnOk result (seen.new ≡ seen.old) }
-    ensures sorts { OnOk result (places_by seen.old.names sorts.new ≡ with_blocks (places_by seen.old.names sorts.old) (blocks seen.old.uses (row (map (head_tree seen.old.names) heads.now.items)))) }
+    ensures sorts { OnOk result (AddsBlocks seen.old (λ n. row (map (head_tree n) heads.now.items)) sorts.old sorts.new) }
 {
     for one in heads {
         head(sorts, seen, one)?;
@@ -94,7 +94,7 @@ fn heads(sorts: &mut BlockSorts, seen: &mut Variables, heads: &HeadList) -> Resu
 #[cycle(blocking)]
 fn head(sorts: &mut BlockSorts, seen: &mut Variables, head: &Head) -> Result<(), Memory>
     ensures seen { OnOk result (seen.new ≡ seen.old) }
-    ensures sorts { OnOk result (places_by seen.old.names sorts.new ≡ with_blocks (places_by seen.old.names sorts.old) (blocks seen.old.uses (head_tree seen.old.names head.now))) }
+    ensures sorts { OnOk result (AddsBlocks seen.old (λ n. head_tree n head.now) sorts.old sorts.new) }
 {
     match head {
         Head::Graph {
@@ -109,7 +109,7 @@ fn head(sorts: &mut BlockSorts, seen: &mut Variables, head: &Head) -> Result<(),
 #[cycle(blocking)]
 fn rest(sorts: &mut BlockSorts, seen: &mut Variables, rest: &NextTermList) -> Result<(), Memory>
     ensures seen { OnOk result (seen.new ≡ seen.old) }
-    ensures sorts { OnOk result (places_by seen.old.names sorts.new ≡ with_blocks (places_by seen.old.names sorts.old) (blocks seen.old.uses (row (map (next_term_tree seen.old.names) rest.now.items)))) }
+    ensures sorts { OnOk result (AddsBlocks seen.old (λ n. row (map (next_term_tree n) rest.now.items)) sorts.old sorts.new) }
 {
     for next in rest {
         next_term(sorts, seen, next)?;
@@ -121,7 +121,7 @@ fn rest(sorts: &mut BlockSorts, seen: &mut Variables, rest: &NextTermList) -> Re
 #[cycle(blocking)]
 fn next_term(sorts: &mut BlockSorts, seen: &mut Variables, next: &NextTerm) -> Result<(), Memory>
     ensures seen { OnOk result (seen.new ≡ seen.old) }
-    ensures sorts { OnOk result (places_by seen.old.names sorts.new ≡ with_blocks (places_by seen.old.names sorts.old) (blocks seen.old.uses (next_term_tree seen.old.names next.now))) }
+    ensures sorts { OnOk result (AddsBlocks seen.old (λ n. next_term_tree n next.now) sorts.old sorts.new) }
 {
     term(sorts, seen, &next.term)
 }
@@ -130,7 +130,7 @@ fn next_term(sorts: &mut BlockSorts, seen: &mut Variables, next: &NextTerm) -> R
 #[cycle(blocking)]
 fn term(sorts: &mut BlockSorts, seen: &mut Variables, term: &Term) -> Result<(), Memory>
     ensures seen { OnOk result (seen.new ≡ seen.old) }
-    ensures sorts { OnOk result (places_by seen.old.names sorts.new ≡ with_blocks (places_by seen.old.names sorts.old) (blocks seen.old.uses (term_tree seen.old.names term.now))) }
+    ensures sorts { OnOk result (AddsBlocks seen.old (λ n. term_tree n term.now) sorts.old sorts.new) }
 {
     match term {
         Term::Basic(one) => basic(sorts, seen, one),
@@ -143,7 +143,7 @@ fn term(sorts: &mut BlockSorts, seen: &mut Variables, term: &Term) -> Result<(),
 #[cycle(blocking)]
 fn basic(sorts: &mut BlockSorts, seen: &mut Variables, basic: &Basic) -> Result<(), Memory>
     ensures seen { OnOk result (seen.new ≡ seen.old) }
-    ensures sorts { OnOk result (places_by seen.old.names sorts.new ≡ with_blocks (places_by seen.old.names sorts.old) (blocks seen.old.uses (basic_tree seen.old.names basic.now))) }
+    ensures sorts { OnOk result (AddsBlocks seen.old (λ n. basic_tree n basic.now) sorts.old sorts.new) }
 {
     whole(sorts, seen, &basic.main, &basic.optionals)?;
     block(sorts, seen, &basic.main)?;
@@ -158,7 +158,7 @@ fn optionals(
     optionals: &OptionalList,
 ) -> Result<(), Memory>
     ensures seen { OnOk result (seen.new ≡ seen.old) }
-    ensures sorts { OnOk result (places_by seen.old.names sorts.new ≡ with_blocks (places_by seen.old.names sorts.old) (blocks seen.old.uses (row (map (optional_tree seen.old.names) optionals.now.items)))) }
+    ensures sorts { OnOk result (AddsBlocks seen.old (λ n. row (map (optional_tree n) optionals.now.items)) sorts.old sorts.new) }
 {
     for one in optionals {
         optional(sorts, seen, one)?;
@@ -174,7 +174,7 @@ fn optional(
     optional: &OptionalBlock,
 ) -> Result<(), Memory>
     ensures seen { OnOk result (seen.new ≡ seen.old) }
-    ensures sorts { OnOk result (places_by seen.old.names sorts.new ≡ with_blocks (places_by seen.old.names sorts.old) (blocks seen.old.uses (optional_tree seen.old.names optional.now))) }
+    ensures sorts { OnOk result (AddsBlocks seen.old (λ n. optional_tree n optional.now) sorts.old sorts.new) }
 {
     block(sorts, seen, &optional.block)
 }
@@ -183,7 +183,7 @@ fn optional(
 #[cycle(blocking)]
 fn block(sorts: &mut BlockSorts, seen: &mut Variables, block: &MatchBlock) -> Result<(), Memory>
     ensures seen { OnOk result (seen.new ≡ seen.old) }
-    ensures sorts { OnOk result (places_by seen.old.names sorts.new ≡ with_blocks (places_by seen.old.names sorts.old) (blocks seen.old.uses (block_tree seen.old.names block.now))) }
+    ensures sorts { OnOk result (AddsBlocks seen.old (λ n. block_tree n block.now) sorts.old sorts.new) }
 {
     let mark = seen.len();
     add_located(seen, &block.patterns)?;
@@ -200,7 +200,7 @@ fn filter(
     filter: &Option<Formula>,
 ) -> Result<(), Memory>
     ensures seen { OnOk result (seen.new ≡ seen.old) }
-    ensures sorts { OnOk result (places_by seen.old.names sorts.new ≡ with_blocks (places_by seen.old.names sorts.old) (blocks seen.old.uses (maybe (option_map (formula_tree seen.old.names) filter.now)))) }
+    ensures sorts { OnOk result (AddsBlocks seen.old (λ n. maybe (option_map (formula_tree n) filter.now)) sorts.old sorts.new) }
 {
     match filter {
         None => Ok(()),
@@ -212,7 +212,7 @@ fn filter(
 #[cycle(blocking)]
 fn queries(sorts: &mut BlockSorts, seen: &mut Variables, queries: &QueryList) -> Result<(), Memory>
     ensures seen { OnOk result (seen.new ≡ seen.old) }
-    ensures sorts { OnOk result (places_by seen.old.names sorts.new ≡ with_blocks (places_by seen.old.names sorts.old) (blocks seen.old.uses (row (map (query_tree seen.old.names) queries.now.items)))) }
+    ensures sorts { OnOk result (AddsBlocks seen.old (λ n. row (map (query_tree n) queries.now.items)) sorts.old sorts.new) }
 {
     for one in queries {
         query(sorts, seen, one)?;
@@ -227,7 +227,7 @@ fn statement(
     statement: &Statement,
 ) -> Result<(), Memory>
     ensures seen { OnOk result (seen.new ≡ seen.old) }
-    ensures sorts { OnOk result (places_by seen.old.names sorts.new ≡ with_blocks (places_by seen.old.names sorts.old) (blocks seen.old.uses (statement_tree seen.old.names statement.now))) }
+    ensures sorts { OnOk result (AddsBlocks seen.old (λ n. statement_tree n statement.now) sorts.old sorts.new) }
 {
     match statement {
         Statement::View {
@@ -245,7 +245,7 @@ fn statements(
     all: &StatementList,
 ) -> Result<(), Memory>
     ensures seen { OnOk result (seen.new ≡ seen.old) }
-    ensures sorts { OnOk result (places_by seen.old.names sorts.new ≡ with_blocks (places_by seen.old.names sorts.old) (blocks seen.old.uses (row (map (statement_tree seen.old.names) all.now.items)))) }
+    ensures sorts { OnOk result (AddsBlocks seen.old (λ n. row (map (statement_tree n) all.now.items)) sorts.old sorts.new) }
 {
     for one in all {
         statement(sorts, seen, one)?;

@@ -2,9 +2,8 @@ ghost use Rattle.std.specs.Prelude.{◌≡◌, length, map, IfOk, OnOk};
 ghost use Rattle.std.specs.Option.{option_map};
 ghost use Rattle.gc_ast.specs.QueryViews.{query_tree, head_tree, term_tree, next_term_tree, basic_tree, block_tree, optional_tree, formula_tree, statement_tree, file_trees};
 ghost use Rattle.gc_ast.specs.Trees.{row, maybe};
-ghost use Rattle.gc_sorts.specs.Collected.{collect, nothing};
-ghost use Rattle.gc_sorts.specs.Occurrences.{occurrences, file_occurrences};
-ghost use Rattle.gc_sorts.specs.Scopes.{behind};
+ghost use Rattle.gc_sorts.specs.Collected.{collect, nothing, read_in, scope_behind};
+ghost use Rattle.gc_sorts.specs.Occurrences.{file_occurrences};
 
 use crate::found::Found;
 use crate::occurring::{chains, items, patterns};
@@ -19,8 +18,8 @@ use std::alloc::Global;
 #[tactic(auto, unfolding(crate::specs::Scopes::behind, crate::specs::Occurrences::occurrences))]
 #[cycle(reading)]
 fn query(found: &mut Found, sight: &mut Sight, query: &Query) -> Result<(), Memory>
-    ensures sight { OnOk result (sight.new ≡ record { names = sight.old.names; at = behind sight.old.at (query_tree sight.old.names query.now) }) }
-    ensures found { OnOk result (found.new ≡ collect found.old (occurrences sight.old.at (query_tree sight.old.names query.now))) }
+    ensures sight { OnOk result (sight.new ≡ scope_behind sight.old (λ n. query_tree n query.now)) }
+    ensures found { OnOk result (found.new ≡ read_in found.old sight.old (λ n. query_tree n query.now)) }
 {
     let counts = sight.counts();
     heads(found, sight, &query.heads)?;
@@ -33,8 +32,8 @@ fn query(found: &mut Found, sight: &mut Sight, query: &Query) -> Result<(), Memo
 #[tactic(auto, unfolding(crate::specs::Scopes::behind, crate::specs::Occurrences::occurrences))]
 #[cycle(reading)]
 fn heads(found: &mut Found, sight: &mut Sight, heads: &HeadList) -> Result<(), Memory>
-    ensures sight { OnOk result (sight.new ≡ record { names = sight.old.names; at = behind sight.old.at (row (map (head_tree sight.old.names) heads.now.items)) }) }
-    ensures found { OnOk result (found.new ≡ collect found.old (occurrences sight.old.at (row (map (head_tree sight.old.names) heads.now.items)))) }
+    ensures sight { OnOk result (sight.new ≡ scope_behind sight.old (λ n. row (map (head_tree n) heads.now.items))) }
+    ensures found { OnOk result (found.new ≡ read_in found.old sight.old (λ n. row (map (head_tree n) heads.now.items))) }
 {
     for one in heads {
         head(found, sight, one)?;
@@ -45,8 +44,8 @@ fn heads(found: &mut Found, sight: &mut Sight, heads: &HeadList) -> Result<(), M
 #[tactic(auto, unfolding(gc_ast::specs::QueryViews::head_by, gc_ast::specs::QueryViews::query_by, gc_ast::specs::QueryViews::formula_by, crate::specs::Scopes::behind, crate::specs::Occurrences::occurrences))]
 #[cycle(reading)]
 fn head(found: &mut Found, sight: &mut Sight, head: &Head) -> Result<(), Memory>
-    ensures sight { OnOk result (sight.new ≡ record { names = sight.old.names; at = behind sight.old.at (head_tree sight.old.names head.now) }) }
-    ensures found { OnOk result (found.new ≡ collect found.old (occurrences sight.old.at (head_tree sight.old.names head.now))) }
+    ensures sight { OnOk result (sight.new ≡ scope_behind sight.old (λ n. head_tree n head.now)) }
+    ensures found { OnOk result (found.new ≡ read_in found.old sight.old (λ n. head_tree n head.now)) }
 {
     match head {
         Head::Graph {
@@ -70,8 +69,8 @@ fn head(found: &mut Found, sight: &mut Sight, head: &Head) -> Result<(), Memory>
 #[tactic(auto, unfolding(crate::specs::Scopes::behind, crate::specs::Occurrences::occurrences))]
 #[cycle(reading)]
 fn rest(found: &mut Found, sight: &mut Sight, rest: &NextTermList) -> Result<(), Memory>
-    ensures sight { OnOk result (sight.new ≡ record { names = sight.old.names; at = behind sight.old.at (row (map (next_term_tree sight.old.names) rest.now.items)) }) }
-    ensures found { OnOk result (found.new ≡ collect found.old (occurrences sight.old.at (row (map (next_term_tree sight.old.names) rest.now.items)))) }
+    ensures sight { OnOk result (sight.new ≡ scope_behind sight.old (λ n. row (map (next_term_tree n) rest.now.items))) }
+    ensures found { OnOk result (found.new ≡ read_in found.old sight.old (λ n. row (map (next_term_tree n) rest.now.items))) }
 {
     for next in rest {
         next_term(found, sight, next)?;
@@ -82,8 +81,8 @@ fn rest(found: &mut Found, sight: &mut Sight, rest: &NextTermList) -> Result<(),
 #[tactic(auto, unfolding(gc_ast::specs::QueryViews::next_term_by, gc_ast::specs::QueryViews::term_by, crate::specs::Scopes::behind, crate::specs::Occurrences::occurrences))]
 #[cycle(reading)]
 fn next_term(found: &mut Found, sight: &mut Sight, next: &NextTerm) -> Result<(), Memory>
-    ensures sight { OnOk result (sight.new ≡ record { names = sight.old.names; at = behind sight.old.at (next_term_tree sight.old.names next.now) }) }
-    ensures found { OnOk result (found.new ≡ collect found.old (occurrences sight.old.at (next_term_tree sight.old.names next.now))) }
+    ensures sight { OnOk result (sight.new ≡ scope_behind sight.old (λ n. next_term_tree n next.now)) }
+    ensures found { OnOk result (found.new ≡ read_in found.old sight.old (λ n. next_term_tree n next.now)) }
 {
     term(found, sight, &next.term)
 }
@@ -91,8 +90,8 @@ fn next_term(found: &mut Found, sight: &mut Sight, next: &NextTerm) -> Result<()
 #[tactic(auto, unfolding(gc_ast::specs::QueryViews::term_by, gc_ast::specs::QueryViews::basic_by, gc_ast::specs::QueryViews::query_by, crate::specs::Scopes::behind, crate::specs::Occurrences::occurrences))]
 #[cycle(reading)]
 fn term(found: &mut Found, sight: &mut Sight, term: &Term) -> Result<(), Memory>
-    ensures sight { OnOk result (sight.new ≡ record { names = sight.old.names; at = behind sight.old.at (term_tree sight.old.names term.now) }) }
-    ensures found { OnOk result (found.new ≡ collect found.old (occurrences sight.old.at (term_tree sight.old.names term.now))) }
+    ensures sight { OnOk result (sight.new ≡ scope_behind sight.old (λ n. term_tree n term.now)) }
+    ensures found { OnOk result (found.new ≡ read_in found.old sight.old (λ n. term_tree n term.now)) }
 {
     match term {
         Term::Basic(one) => basic(found, sight, one),
@@ -104,8 +103,8 @@ fn term(found: &mut Found, sight: &mut Sight, term: &Term) -> Result<(), Memory>
 #[tactic(auto, unfolding(crate::specs::Scopes::behind, crate::specs::Occurrences::occurrences))]
 #[cycle(reading)]
 fn basic(found: &mut Found, sight: &mut Sight, basic: &Basic) -> Result<(), Memory>
-    ensures sight { OnOk result (sight.new ≡ record { names = sight.old.names; at = behind sight.old.at (basic_tree sight.old.names basic.now) }) }
-    ensures found { OnOk result (found.new ≡ collect found.old (occurrences sight.old.at (basic_tree sight.old.names basic.now))) }
+    ensures sight { OnOk result (sight.new ≡ scope_behind sight.old (λ n. basic_tree n basic.now)) }
+    ensures found { OnOk result (found.new ≡ read_in found.old sight.old (λ n. basic_tree n basic.now)) }
 {
     items(found, sight, &basic.items)?;
     block(found, sight, &basic.main)?;
@@ -115,8 +114,8 @@ fn basic(found: &mut Found, sight: &mut Sight, basic: &Basic) -> Result<(), Memo
 #[tactic(auto, unfolding(crate::specs::Scopes::behind, crate::specs::Occurrences::occurrences))]
 #[cycle(reading)]
 fn optionals(found: &mut Found, sight: &mut Sight, optionals: &OptionalList) -> Result<(), Memory>
-    ensures sight { OnOk result (sight.new ≡ record { names = sight.old.names; at = behind sight.old.at (row (map (optional_tree sight.old.names) optionals.now.items)) }) }
-    ensures found { OnOk result (found.new ≡ collect found.old (occurrences sight.old.at (row (map (optional_tree sight.old.names) optionals.now.items)))) }
+    ensures sight { OnOk result (sight.new ≡ scope_behind sight.old (λ n. row (map (optional_tree n) optionals.now.items))) }
+    ensures found { OnOk result (found.new ≡ read_in found.old sight.old (λ n. row (map (optional_tree n) optionals.now.items))) }
 {
     for one in optionals {
         optional(found, sight, one)?;
@@ -127,8 +126,8 @@ fn optionals(found: &mut Found, sight: &mut Sight, optionals: &OptionalList) -> 
 #[tactic(auto, unfolding(gc_ast::specs::QueryViews::optional_by, gc_ast::specs::QueryViews::block_by, crate::specs::Scopes::behind, crate::specs::Occurrences::occurrences))]
 #[cycle(reading)]
 fn optional(found: &mut Found, sight: &mut Sight, optional: &OptionalBlock) -> Result<(), Memory>
-    ensures sight { OnOk result (sight.new ≡ record { names = sight.old.names; at = behind sight.old.at (optional_tree sight.old.names optional.now) }) }
-    ensures found { OnOk result (found.new ≡ collect found.old (occurrences sight.old.at (optional_tree sight.old.names optional.now))) }
+    ensures sight { OnOk result (sight.new ≡ scope_behind sight.old (λ n. optional_tree n optional.now)) }
+    ensures found { OnOk result (found.new ≡ read_in found.old sight.old (λ n. optional_tree n optional.now)) }
 {
     block(found, sight, &optional.block)
 }
@@ -136,8 +135,8 @@ fn optional(found: &mut Found, sight: &mut Sight, optional: &OptionalBlock) -> R
 #[tactic(auto, unfolding(crate::specs::Scopes::behind, crate::specs::Occurrences::occurrences))]
 #[cycle(reading)]
 fn block(found: &mut Found, sight: &mut Sight, block: &MatchBlock) -> Result<(), Memory>
-    ensures sight { OnOk result (sight.new ≡ record { names = sight.old.names; at = behind sight.old.at (block_tree sight.old.names block.now) }) }
-    ensures found { OnOk result (found.new ≡ collect found.old (occurrences sight.old.at (block_tree sight.old.names block.now))) }
+    ensures sight { OnOk result (sight.new ≡ scope_behind sight.old (λ n. block_tree n block.now)) }
+    ensures found { OnOk result (found.new ≡ read_in found.old sight.old (λ n. block_tree n block.now)) }
 {
     patterns(found, sight, &block.patterns)?;
     filter(found, sight, &block.filter)
@@ -146,8 +145,8 @@ fn block(found: &mut Found, sight: &mut Sight, block: &MatchBlock) -> Result<(),
 #[tactic(auto, unfolding(gc_ast::specs::QueryViews::formula_by, gc_ast::specs::QueryViews::query_by, crate::specs::Scopes::behind, crate::specs::Occurrences::occurrences))]
 #[cycle(reading)]
 fn filter(found: &mut Found, sight: &mut Sight, filter: &Option<Formula>) -> Result<(), Memory>
-    ensures sight { OnOk result (sight.new ≡ record { names = sight.old.names; at = behind sight.old.at (maybe (option_map (formula_tree sight.old.names) filter.now)) }) }
-    ensures found { OnOk result (found.new ≡ collect found.old (occurrences sight.old.at (maybe (option_map (formula_tree sight.old.names) filter.now)))) }
+    ensures sight { OnOk result (sight.new ≡ scope_behind sight.old (λ n. maybe (option_map (formula_tree n) filter.now))) }
+    ensures found { OnOk result (found.new ≡ read_in found.old sight.old (λ n. maybe (option_map (formula_tree n) filter.now))) }
 {
     match filter {
         None => Ok(()),
@@ -158,8 +157,8 @@ fn filter(found: &mut Found, sight: &mut Sight, filter: &Option<Formula>) -> Res
 #[tactic(auto, unfolding(crate::specs::Scopes::behind, crate::specs::Occurrences::occurrences))]
 #[cycle(reading)]
 fn queries(found: &mut Found, sight: &mut Sight, queries: &QueryList) -> Result<(), Memory>
-    ensures sight { OnOk result (sight.new ≡ record { names = sight.old.names; at = behind sight.old.at (row (map (query_tree sight.old.names) queries.now.items)) }) }
-    ensures found { OnOk result (found.new ≡ collect found.old (occurrences sight.old.at (row (map (query_tree sight.old.names) queries.now.items)))) }
+    ensures sight { OnOk result (sight.new ≡ scope_behind sight.old (λ n. row (map (query_tree n) queries.now.items))) }
+    ensures found { OnOk result (found.new ≡ read_in found.old sight.old (λ n. row (map (query_tree n) queries.now.items))) }
 {
     for one in queries {
         query(found, sight, one)?;
@@ -169,8 +168,8 @@ fn queries(found: &mut Found, sight: &mut Sight, queries: &QueryList) -> Result<
 
 #[tactic(auto, unfolding(crate::specs::Scopes::behind, crate::specs::Occurrences::occurrences))]
 fn statement(found: &mut Found, sight: &mut Sight, statement: &Statement) -> Result<(), Memory>
-    ensures sight { OnOk result (sight.new ≡ record { names = sight.old.names; at = behind sight.old.at (statement_tree sight.old.names statement.now) }) }
-    ensures found { OnOk result (found.new ≡ collect found.old (occurrences sight.old.at (statement_tree sight.old.names statement.now))) }
+    ensures sight { OnOk result (sight.new ≡ scope_behind sight.old (λ n. statement_tree n statement.now)) }
+    ensures found { OnOk result (found.new ≡ read_in found.old sight.old (λ n. statement_tree n statement.now)) }
 {
     match statement {
         Statement::View {
@@ -186,7 +185,7 @@ fn statement(found: &mut Found, sight: &mut Sight, statement: &Statement) -> Res
 
 #[tactic(auto, unfolding(crate::specs::Scopes::behind, crate::specs::Occurrences::occurrences))]
 fn statements(found: &mut Found, sight: &mut Sight, all: &StatementList) -> Result<(), Memory>
-    ensures { OnOk result (found.new ≡ collect found.old (occurrences sight.old.at (row (map (statement_tree sight.old.names) all.now.items)))) }
+    ensures { OnOk result (found.new ≡ read_in found.old sight.old (λ n. row (map (statement_tree n) all.now.items))) }
 {
     for one in all {
         statement(found, sight, one)?;
