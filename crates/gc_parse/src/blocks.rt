@@ -43,7 +43,8 @@ fn block(source: &Source, room: u64, at: u32) -> Result<(MatchBlock, u32), Refus
 // { `OPTIONAL` block }
 fn optional_blocks(source: &Source, room: u64, from: u32) -> Result<(OptionalList, u32), Refusal>
     requires { 0 < room }
-    ensures { Gives (λ blocks. map (optional_tree source.now.names) blocks.items) source.now.tokens result (read_many (word_kind (codes "OPTIONAL") ∷ []) (read_optional_block room (nested (room - 1))) room (bare from) (drop from source.now.tokens)) }
+    ensures { Gives (λ blocks. map (optional_tree source.now.names) blocks.items) source.now.tokens result
+        (read_many (word_kind (codes "OPTIONAL") ∷ []) (read_optional_block room (nested (room - 1))) room (bare from) (drop from source.now.tokens)) }
 {
     let mut blocks = Vec::new(source.alloc());
     let mut at = from;
@@ -63,7 +64,8 @@ fn optional_blocks(source: &Source, room: u64, from: u32) -> Result<(OptionalLis
 // `OPTIONAL` block
 fn optional_block(source: &Source, room: u64, at: u32) -> Result<(OptionalBlock, u32), Refusal>
     requires { 0 < room }
-    ensures { Gives (optional_tree source.now.names) source.now.tokens result (read_optional_block room (nested (room - 1)) (bare at) (drop at source.now.tokens)) }
+    ensures { Gives (optional_tree source.now.names) source.now.tokens result
+        (read_optional_block room (nested (room - 1)) (bare at) (drop at source.now.tokens)) }
 {
     let token = at;
     let at = source.the_word(at, "OPTIONAL")?;

@@ -16,7 +16,8 @@ use gc_parse_source::{Refusal, Source, is_view_at, one};
 // `GRAPH` `VIEW` name `AS` `(` query `)`
 fn view_statement(source: &Source, room: u64, at: u32) -> Result<(Statement, u32), Refusal>
     requires { 0 < room }
-    ensures { Gives (statement_tree source.now.names) source.now.tokens result (read_view_statement (nested (room - 1)) (bare at) (drop at source.now.tokens)) }
+    ensures { Gives (statement_tree source.now.names) source.now.tokens result
+        (read_view_statement (nested (room - 1)) (bare at) (drop at source.now.tokens)) }
 {
     let at = source.the_word(at, "GRAPH")?;
     let at = source.the_word(at, "VIEW")?;
@@ -28,7 +29,8 @@ fn view_statement(source: &Source, room: u64, at: u32) -> Result<(Statement, u32
 // statement = `GRAPH` `VIEW` name `AS` `(` query `)` | query
 fn statement(source: &Source, room: u64, at: u32) -> Result<(Statement, u32), Refusal>
     requires { 0 < room }
-    ensures { Gives (statement_tree source.now.names) source.now.tokens result (read_statement room (nested (room - 1)) (bare at) (drop at source.now.tokens)) }
+    ensures { Gives (statement_tree source.now.names) source.now.tokens result
+        (read_statement room (nested (room - 1)) (bare at) (drop at source.now.tokens)) }
 {
     if is_view_at(source, at) {
         return view_statement(source, room, at);
@@ -45,7 +47,8 @@ pub(crate) fn file_statements(
     at: u32,
 ) -> Result<(StatementList, u32), Refusal>
     requires { 0 < room }
-    ensures { Gives (λ statements. map (statement_tree source.now.names) statements.items) source.now.tokens result (read_file room (nested (room - 1)) (bare at) (drop at source.now.tokens)) }
+    ensures { Gives (λ statements. map (statement_tree source.now.names) statements.items) source.now.tokens result
+        (read_file room (nested (room - 1)) (bare at) (drop at source.now.tokens)) }
 {
     let (first, at) = statement(source, room, at)?;
     let (statements, at) = later_statements(source, room, at, first)?;
@@ -60,7 +63,9 @@ fn later_statements(
     first: Statement,
 ) -> Result<(StatementList, u32), Refusal>
     requires { 0 < room }
-    ensures { Gives (λ statements. map (statement_tree source.now.names) statements.items) source.now.tokens result (in_front (statement_tree source.now.names first ∷ []) (read_later (read_statement room (nested (room - 1))) room (bare from) (drop from source.now.tokens))) }
+    ensures { Gives (λ statements. map (statement_tree source.now.names) statements.items) source.now.tokens result
+        (in_front (statement_tree source.now.names first ∷ []) (read_later (read_statement room (nested (room - 1))) room (bare from)
+        (drop from source.now.tokens))) }
 {
     let mut statements = one(source.alloc(), first)?;
     let mut at = from;
@@ -78,7 +83,8 @@ fn later_statements(
 // [ `;` [ statement ] ], of which what is absent is the end
 fn next_statement(source: &Source, room: u64, at: u32) -> Result<(Option<Statement>, u32), Refusal>
     requires { 0 < room }
-    ensures { Gives (λ found. option_map (statement_tree source.now.names) found) source.now.tokens result (read_next (read_statement room (nested (room - 1))) (bare at) (drop at source.now.tokens)) }
+    ensures { Gives (λ found. option_map (statement_tree source.now.names) found) source.now.tokens result
+        (read_next (read_statement room (nested (room - 1))) (bare at) (drop at source.now.tokens)) }
 {
     if is_end(source, at) {
         return Ok((None, at));
@@ -91,7 +97,8 @@ fn next_statement(source: &Source, room: u64, at: u32) -> Result<(Option<Stateme
 // [ statement ], which is absent at the end
 fn statement_if(source: &Source, room: u64, at: u32) -> Result<(Option<Statement>, u32), Refusal>
     requires { 0 < room }
-    ensures { Gives (λ found. option_map (statement_tree source.now.names) found) source.now.tokens result (read_unless_ended (read_statement room (nested (room - 1))) (bare at) (drop at source.now.tokens)) }
+    ensures { Gives (λ found. option_map (statement_tree source.now.names) found) source.now.tokens result
+        (read_unless_ended (read_statement room (nested (room - 1))) (bare at) (drop at source.now.tokens)) }
 {
     if is_end(source, at) {
         return Ok((None, at));

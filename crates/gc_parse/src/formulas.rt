@@ -27,7 +27,8 @@ fn formula(source: &Source, room: u64, at: u32) -> FormulaRead
     let mut exists = Vec::new(source.alloc());
     let queries = |within: u64, place: u32| -> QueryRead
         requires { within < room }
-        ensures { Gives (query_tree source.entry.now.names) source.entry.now.tokens result ((nested within).query (bare place) (drop place source.entry.now.tokens)) }
+        ensures { Gives (query_tree source.entry.now.names) source.entry.now.tokens result
+            ((nested within).query (bare place) (drop place source.entry.now.tokens)) }
     {
         prove!(within < room);
         inner_query(source, within, place)
@@ -46,11 +47,13 @@ pub(crate) fn condition_if(
 ) -> Result<(Option<Formula>, u32), Refusal>
     requires reserved { is_reserved word.now ≡ true }
     requires room { 0 < room }
-    ensures { Gives (λ condition. option_map (formula_tree source.now.names) condition) source.now.tokens result (read_condition_if word.now room (nested (room - 1)) (bare at) (drop at source.now.tokens)) }
+    ensures { Gives (λ condition. option_map (formula_tree source.now.names) condition) source.now.tokens result
+        (read_condition_if word.now room (nested (room - 1)) (bare at) (drop at source.now.tokens)) }
 {
     let formulas = |place: u32| -> FormulaRead
         requires { 0 < room }
-        ensures { Gives (formula_tree source.entry.now.names) source.entry.now.tokens result (read_formula room (nested (room - 1)) (bare place) (drop place source.entry.now.tokens)) }
+        ensures { Gives (formula_tree source.entry.now.names) source.entry.now.tokens result
+            (read_formula room (nested (room - 1)) (bare place) (drop place source.entry.now.tokens)) }
     { formula(source, room, place) };
     condition_by(source, room, at, word, &formulas)
 }
@@ -63,11 +66,13 @@ pub(crate) fn construct_items(
     at: u32,
 ) -> Result<(ItemList, u32), Refusal>
     requires { 0 < room }
-    ensures { Gives (λ items. map (item_tree source.now.names) items.items) source.now.tokens result (read_separated (mark_kind mark.Comma ∷ []) (read_item room (nested (room - 1))) (read_mark mark.Comma) room (bare at) (drop at source.now.tokens)) }
+    ensures { Gives (λ items. map (item_tree source.now.names) items.items) source.now.tokens result
+        (read_separated (mark_kind mark.Comma ∷ []) (read_item room (nested (room - 1))) (read_mark mark.Comma) room (bare at) (drop at source.now.tokens)) }
 {
     let formulas = |place: u32| -> FormulaRead
         requires { 0 < room }
-        ensures { Gives (formula_tree source.entry.now.names) source.entry.now.tokens result (read_formula room (nested (room - 1)) (bare place) (drop place source.entry.now.tokens)) }
+        ensures { Gives (formula_tree source.entry.now.names) source.entry.now.tokens result
+            (read_formula room (nested (room - 1)) (bare place) (drop place source.entry.now.tokens)) }
     { formula(source, room, place) };
     items(source, room, at, &formulas)
 }

@@ -82,7 +82,8 @@ fn whole_file(alloc: Global, tokens: &Tokens) -> Result<File, Refusal>
 // The statements that all tokens spell.
 fn statements_of(source: &Source) -> Result<StatementList, Refusal>
     ensures right { IsWhole SpellsFile (λ statements. map (statement_tree source.now.names) statements.items) source.now.tokens result }
-    ensures due { IsDueWhole (λ statements. map (statement_tree source.now.names) statements.items) (read_whole (file_reading (length source.now.tokens + 1) source.now.tokens)) result }
+    ensures due { IsDueWhole (λ statements. map (statement_tree source.now.names) statements.items)
+        (read_whole (file_reading (length source.now.tokens + 1) source.now.tokens)) result }
 {
     let room = u64::from(source.len()) + 1;
     let (statements, _) = file_statements(source, room, 0)?;

@@ -37,7 +37,9 @@ fn filter_and_cost(
     at: u32,
 ) -> Result<((Option<Formula>, Option<Formula>), u32), Refusal>
     requires { 0 < room }
-    ensures { Gives (λ found. (maybe (option_map (formula_tree source.now.names) found.0), option_map (formula_tree source.now.names) found.1)) source.now.tokens result (read_both (read_where room (nested (room - 1))) (read_condition_if (codes "COST") room (nested (room - 1))) (bare at) (drop at source.now.tokens)) }
+    ensures { Gives (λ found. (maybe (option_map (formula_tree source.now.names) found.0), option_map (formula_tree source.now.names) found.1))
+        source.now.tokens result (read_both (read_where room (nested (room - 1))) (read_condition_if (codes "COST") room (nested (room - 1)))
+        (bare at) (drop at source.now.tokens)) }
 {
     let (filter, at) = condition_if(source, room, at, "WHERE")?;
     let (cost, at) = condition_if(source, room, at, "COST")?;

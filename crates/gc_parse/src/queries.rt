@@ -47,7 +47,8 @@ pub(crate) fn query(source: &Source, room: u64, at: u32) -> Result<(Query, u32),
 #[tactic(auto, unfolding(gc_ast::specs::QueryViews::term_by, gc_ast::specs::QueryViews::query_by))]
 // A query without heads whose only term is a query in parentheses is that query.
 fn unwrapped(heads: HeadList, first: Term, rest: NextTermList) -> Query
-    ensures { (names : Names) → query_tree names result ≡ as_query (map (head_tree names) heads.items) (term_tree names first) (map (next_term_tree names) rest.items) }
+    ensures { (names : Names) → query_tree names result ≡ as_query (map (head_tree names) heads.items) (term_tree names first)
+        (map (next_term_tree names) rest.items) }
 {
     if !heads.is_empty() || !rest.is_empty() {
         return Query::of(heads, first, rest);
@@ -63,7 +64,9 @@ fn unwrapped(heads: HeadList, first: Term, rest: NextTermList) -> Query
 #[cycle(query)]
 fn heads(source: &Source, room: u64, from: u32) -> Result<(HeadList, u32), Refusal>
     requires { 0 < room }
-    ensures { Gives (λ heads. map (head_tree source.now.names) heads.items) source.now.tokens result (read_many (word_kind (codes "PATH") ∷ word_kind (codes "GRAPH") ∷ []) (read_head room (nested (room - 1))) room (bare from) (drop from source.now.tokens)) }
+    ensures { Gives (λ heads. map (head_tree source.now.names) heads.items) source.now.tokens result
+        (read_many (word_kind (codes "PATH") ∷ word_kind (codes "GRAPH") ∷ []) (read_head room (nested (room - 1))) room (bare from)
+        (drop from source.now.tokens)) }
 {
     let mut heads = Vec::new(source.alloc());
     let mut at = from;
@@ -110,7 +113,8 @@ pub(crate) fn named_query(
     at: u32,
 ) -> Result<((NameAt, Query), u32), Refusal>
     requires { 0 < room }
-    ensures { Gives (λ found. (named source.now.names found.0, query_tree source.now.names found.1)) source.now.tokens result (read_named_query (nested (room - 1)) (bare at) (drop at source.now.tokens)) }
+    ensures { Gives (λ found. (named source.now.names found.0, query_tree source.now.names found.1)) source.now.tokens result
+        (read_named_query (nested (room - 1)) (bare at) (drop at source.now.tokens)) }
 {
     let (name, at) = source.name(at)?;
     let at = source.the_word(at, "AS")?;
@@ -123,7 +127,8 @@ pub(crate) fn named_query(
 // `(` query `)`
 fn bracketed_query(source: &Source, room: u64, at: u32) -> Result<(Query, u32), Refusal>
     requires { 0 < room }
-    ensures { Gives (query_tree source.now.names) source.now.tokens result (read_in_parentheses (nested (room - 1)).query (bare at) (drop at source.now.tokens)) }
+    ensures { Gives (query_tree source.now.names) source.now.tokens result
+        (read_in_parentheses (nested (room - 1)).query (bare at) (drop at source.now.tokens)) }
 {
     let at = source.mark(at, Mark::OpenParenthesis)?;
     let (query, at) = inner_query(source, room - 1, at)?;
@@ -166,7 +171,8 @@ fn wrapped_parts(
     first: Term,
     rest: NextTermList,
 ) -> Result<Term, Memory>
-    ensures { IfOk result (λ term. (names : Names) → term_tree names term ≡ term_of_parts (map (head_tree names) heads.items) (term_tree names first) (map (next_term_tree names) rest.items)) }
+    ensures { IfOk result (λ term. (names : Names) → term_tree names term ≡ term_of_parts (map (head_tree names) heads.items) (term_tree names first)
+        (map (next_term_tree names) rest.items)) }
 {
     if !heads.is_empty() || !rest.is_empty() {
         let term = Term::query(alloc, Query::of(heads, first, rest))?;
@@ -179,7 +185,8 @@ fn wrapped_parts(
 #[cycle(query)]
 fn next_terms(source: &Source, room: u64, from: u32) -> Result<(NextTermList, u32), Refusal>
     requires { 0 < room }
-    ensures { Gives (λ terms. map (next_term_tree source.now.names) terms.items) source.now.tokens result (read_many set_op_kinds (read_next_term room (nested (room - 1))) room (bare from) (drop from source.now.tokens)) }
+    ensures { Gives (λ terms. map (next_term_tree source.now.names) terms.items) source.now.tokens result
+        (read_many set_op_kinds (read_next_term room (nested (room - 1))) room (bare from) (drop from source.now.tokens)) }
 {
     let mut terms = Vec::new(source.alloc());
     let mut at = from;
@@ -199,7 +206,8 @@ fn next_terms(source: &Source, room: u64, from: u32) -> Result<(NextTermList, u3
 // (`UNION` | `INTERSECT` | `MINUS`) term
 fn next_term(source: &Source, room: u64, at: u32) -> Result<(NextTerm, u32), Refusal>
     requires { 0 < room }
-    ensures { Gives (next_term_tree source.now.names) source.now.tokens result (read_next_term room (nested (room - 1)) (bare at) (drop at source.now.tokens)) }
+    ensures { Gives (next_term_tree source.now.names) source.now.tokens result
+        (read_next_term room (nested (room - 1)) (bare at) (drop at source.now.tokens)) }
 {
     let (op, at) = set_op(source, at)?;
     let (term, at) = term(source, room, at)?;

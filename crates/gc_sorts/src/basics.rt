@@ -61,9 +61,12 @@ fn add_match(
     requires known { costs.old.order ≡ cost_names variables.old.uses }
     requires links { links.old.items ≡ [] }
     ensures names { variables.new.names ≡ variables.old.names }
-    ensures uses { OnOk result (variables.new.uses ≡ match_uses variables.old.uses (block_tree variables.old.names main.now) (row (map (optional_tree variables.old.names) optionals.now.items))) }
-    ensures links { OnOk result (map (link_by variables.old.names) links.new.items ≡ match_links variables.old.uses (block_tree variables.old.names main.now) (row (map (optional_tree variables.old.names) optionals.now.items))) }
-    ensures found { IfOk result (λ first. first ≡ first_among found (match_breaches variables.old.uses (block_tree variables.old.names main.now) (row (map (optional_tree variables.old.names) optionals.now.items)))) }
+    ensures uses { OnOk result (variables.new.uses ≡ match_uses variables.old.uses (block_tree variables.old.names main.now)
+        (row (map (optional_tree variables.old.names) optionals.now.items))) }
+    ensures links { OnOk result (map (link_by variables.old.names) links.new.items ≡ match_links variables.old.uses
+        (block_tree variables.old.names main.now) (row (map (optional_tree variables.old.names) optionals.now.items))) }
+    ensures found { IfOk result (λ first. first ≡ first_among found (match_breaches variables.old.uses (block_tree variables.old.names main.now)
+        (row (map (optional_tree variables.old.names) optionals.now.items)))) }
     ensures costs { costs.new.names ≡ costs.old.names }
     ensures order { OnOk result (costs.new.order ≡ cost_names variables.new.uses) }
 {
@@ -89,7 +92,8 @@ fn construct(
     requires graphs { graphs.now.names ≡ variables.now.names }
     requires makes { makes.old.names ≡ variables.now.names }
     requires nothing { makes.old.all ≡ nothing_made }
-    ensures found { IfOk result (λ first. first ≡ first_among found (items_breaches (known graphs.now) variables.now.uses (map (link_by variables.now.names) links.now) (row (map (item_tree variables.now.names) all.now.items)))) }
+    ensures found { IfOk result (λ first. first ≡ first_among found (items_breaches (known graphs.now) variables.now.uses
+        (map (link_by variables.now.names) links.now) (row (map (item_tree variables.now.names) all.now.items)))) }
     ensures names { makes.new.names ≡ makes.old.names }
 {
     makes.add_items(all)?;
@@ -120,8 +124,13 @@ pub(crate) fn basic(
     requires known { costs.old.order ≡ cost_names variables.old.uses }
     requires nothing { makes.old.all ≡ nothing_made }
     ensures names { variables.new.names ≡ variables.old.names }
-    ensures uses { OnOk result (variables.new.uses ≡ match_uses variables.old.uses (block_tree variables.old.names main.now) (row (map (optional_tree variables.old.names) optionals.now.items))) }
-    ensures found { IfOk result (λ first. first ≡ first_among found (both (match_breaches variables.old.uses (block_tree variables.old.names main.now) (row (map (optional_tree variables.old.names) optionals.now.items))) (construct_breaches (known graphs.now) variables.old.uses (row (map (item_tree variables.old.names) all.now.items)) (block_tree variables.old.names main.now) (row (map (optional_tree variables.old.names) optionals.now.items))))) }
+    ensures uses { OnOk result (variables.new.uses ≡ match_uses variables.old.uses (block_tree variables.old.names main.now)
+        (row (map (optional_tree variables.old.names) optionals.now.items))) }
+    ensures found { IfOk result (λ first. first ≡ first_among found (both
+        (match_breaches variables.old.uses (block_tree variables.old.names main.now)
+        (row (map (optional_tree variables.old.names) optionals.now.items)))
+        (construct_breaches (known graphs.now) variables.old.uses (row (map (item_tree variables.old.names) all.now.items))
+        (block_tree variables.old.names main.now) (row (map (optional_tree variables.old.names) optionals.now.items))))) }
     ensures costs { costs.new.names ≡ costs.old.names }
     ensures order { OnOk result (costs.new.order ≡ cost_names variables.new.uses) }
     ensures makes { makes.new.names ≡ makes.old.names }

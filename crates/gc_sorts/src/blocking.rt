@@ -20,7 +20,8 @@ use std::alloc::Global;
 // Adds the block of a view.
 fn view(sorts: &mut BlockSorts, seen: &mut Variables, chains: &ChainList) -> Result<(), Memory>
     ensures seen { OnOk result (seen.new ≡ seen.old) }
-    ensures sorts { OnOk result (places_by seen.old.names sorts.new ≡ places_by seen.old.names sorts.old ++ (seen.old.uses ++ all_of (all_of pattern_uses) (rows (map (λ c. map (pattern_tree seen.old.names) c.parts) chains.now))) ∷ []) }
+    ensures sorts { OnOk result (places_by seen.old.names sorts.new ≡ places_by seen.old.names sorts.old ++
+        (seen.old.uses ++ all_of (all_of pattern_uses) (rows (map (λ c. map (pattern_tree seen.old.names) c.parts) chains.now))) ∷ []) }
 {
     let mark = seen.len();
     add_chains(seen, chains)?;
@@ -57,7 +58,8 @@ fn whole(
     optionals: &OptionalList,
 ) -> Result<(), Memory>
     ensures seen { OnOk result (seen.new ≡ seen.old) }
-    ensures sorts { OnOk result (places_by seen.old.names sorts.new ≡ places_by seen.old.names sorts.old ++ match_uses seen.old.uses (block_tree seen.old.names main.now) (row (map (optional_tree seen.old.names) optionals.now.items)) ∷ []) }
+    ensures sorts { OnOk result (places_by seen.old.names sorts.new ≡ places_by seen.old.names sorts.old ++ match_uses seen.old.uses
+        (block_tree seen.old.names main.now) (row (map (optional_tree seen.old.names) optionals.now.items)) ∷ []) }
 {
     let mark = seen.len();
     add_block(seen, main)?;

@@ -65,7 +65,8 @@ impl Checked {
     /// The hidden variable of the unnamed node or edge at a token, of a MATCH or of a CONSTRUCT; hidden
     /// variables are numbered behind the names of the file.
     pub fn hidden_at(&self, token: u32) -> Option<Sym>
-        ensures { option_map (λ sym. sym.0) result ≡ hidden_from (length self.now.file.names) (file_occurrences self.now.graphs (row (file_trees self.now.file))) token }
+        ensures { option_map (λ sym. sym.0) result ≡ hidden_from (length self.now.file.names)
+            (file_occurrences self.now.graphs (row (file_trees self.now.file))) token }
     {
         match self.found.hidden.get(token) {
             Some(number) => Some(Sym(number)),

@@ -55,9 +55,14 @@ impl<'n> Model for Checker<'n> {
 
     ghost Value = { holders.HeldSights };
 
-    ghost view = { λ c. record { names = c.variables.names; at = record { loaded = c.graphs.loaded; declared = c.graphs.declared; views = c.views.order; uses = c.variables.uses } } };
+    ghost view = { λ c. record {
+      names = c.variables.names;
+      at = record
+          { loaded = c.graphs.loaded; declared = c.graphs.declared; views = c.views.order; uses = c.variables.uses };
+    } };
 
-    ghost invariant = { λ c. (c.graphs.names ≡ c.variables.names) × (c.views.names ≡ c.variables.names) × (c.costs.names ≡ c.variables.names) × (c.makes.names ≡ c.variables.names) × (c.costs.order ≡ cost_names c.variables.uses) × (c.makes.all ≡ nothing_made) };
+    ghost invariant = { λ c. (c.graphs.names ≡ c.variables.names) × (c.views.names ≡ c.variables.names) × (c.costs.names ≡ c.variables.names) ×
+        (c.makes.names ≡ c.variables.names) × (c.costs.order ≡ cost_names c.variables.uses) × (c.makes.all ≡ nothing_made) };
 }
 
 impl<'n> Checker<'n> {
@@ -105,7 +110,11 @@ impl<'n> Checker<'n> {
 
     /// Keeps so many of the declared graphs and so many views.
     pub fn restore(&mut self, graphs: usize, views: usize)
-        ensures { self.new ≡ record { names = self.old.names; at = record self.old.at { declared = take graphs self.old.at.declared; views = take views self.old.at.views } } }
+        ensures { self.new ≡ record {
+          names = self.old.names;
+          at = record self.old.at
+              { declared = take graphs self.old.at.declared; views = take views self.old.at.views };
+        } }
     {
         self.graphs.cut(graphs);
         self.views.cut(views);
@@ -113,14 +122,20 @@ impl<'n> Checker<'n> {
 
     /// Declares a graph.
     pub fn declare_graph(&mut self, name: NameAt) -> Result<(), Memory>
-        ensures { OnOk result (self.new ≡ record { names = self.old.names; at = record self.old.at { declared = self.old.at.declared ++ name_of self.old.names name.sym ∷ [] } }) }
+        ensures { OnOk result (self.new ≡ record {
+          names = self.old.names;
+          at = record self.old.at { declared = self.old.at.declared ++ name_of self.old.names name.sym ∷ [] };
+        }) }
     {
         self.graphs.declare(name.sym)
     }
 
     /// Declares a view.
     pub fn declare_view(&mut self, name: NameAt) -> Result<(), Memory>
-        ensures { OnOk result (self.new ≡ record { names = self.old.names; at = record self.old.at { views = self.old.at.views ++ name_of self.old.names name.sym ∷ [] } }) }
+        ensures { OnOk result (self.new ≡ record {
+          names = self.old.names;
+          at = record self.old.at { views = self.old.at.views ++ name_of self.old.names name.sym ∷ [] };
+        }) }
     {
         self.views.push(name.sym)
     }
@@ -152,7 +167,8 @@ impl<'n> Checker<'n> {
         found: Option<Breach>,
         patterns: &LocatedList,
     ) -> Result<Option<Breach>, Memory>
-        ensures { IfOk result (λ first. first ≡ first_among found (patterns_breaches (graphs_in self.now.at) self.now.at.views (row (map (located_tree self.now.names) patterns.now)))) }
+        ensures { IfOk result (λ first. first ≡ first_among found (patterns_breaches (graphs_in self.now.at) self.now.at.views
+            (row (map (located_tree self.now.names) patterns.now)))) }
     {
         block_patterns(self.alloc, found, &self.graphs, &self.views, patterns)
     }
@@ -160,7 +176,8 @@ impl<'n> Checker<'n> {
     /// The first breach of those so far and of a condition, of each of whose EXISTS it is told whether it
     /// may stand there.
     pub fn condition(&self, found: Option<Breach>, expr: &Expr, exists: &[bool]) -> Option<Breach>
-        ensures { result ≡ first_among found (expression_breaches (record { uses = self.now.at.uses; stored = []; exists = exists.now }) false takes.Condition 0 (renamed (name_of self.now.names) (numbered_expr expr.now))) }
+        ensures { result ≡ first_among found (expression_breaches (record { uses = self.now.at.uses; stored = []; exists = exists.now }) false
+            takes.Condition 0 (renamed (name_of self.now.names) (numbered_expr expr.now))) }
     {
         let makes = &self.makes;
         let place = Place {
@@ -176,7 +193,10 @@ impl<'n> Checker<'n> {
     /// The same of the chains of a view.
     pub fn enter_chains(&mut self, chains: &ChainList) -> Result<Mark, Memory>
         ensures mark { IfOk result (λ mark. IsMark mark self.old.at.uses) }
-        ensures places { OnOk result (self.new ≡ record { names = self.old.names; at = record self.old.at { uses = view_uses self.old.at (rows (map (λ c. map (pattern_tree self.old.names) c.parts) chains.now)) } }) }
+        ensures places { OnOk result (self.new ≡ record {
+          names = self.old.names;
+          at = record self.old.at { uses = view_uses self.old.at (rows (map (λ c. map (pattern_tree self.old.names) c.parts) chains.now)) };
+        }) }
     {
         let mark = self.mark();
         match enter_chains(&mut self.variables, &mut self.costs, chains) {
@@ -204,7 +224,8 @@ impl<'n> Checker<'n> {
         name: NameAt,
         chains: &ChainList,
     ) -> Result<Option<Breach>, Memory>
-        ensures { IfOk result (λ first. first ≡ first_among found (chains_breaches self.now.at.views (named self.now.names name) (rows (map (λ c. map (pattern_tree self.now.names) c.parts) chains.now)))) }
+        ensures { IfOk result (λ first. first ≡ first_among found (chains_breaches self.now.at.views (named self.now.names name)
+            (rows (map (λ c. map (pattern_tree self.now.names) c.parts) chains.now)))) }
     {
         view_chains(self.alloc, found, &self.views, name, chains)
     }
@@ -216,7 +237,8 @@ impl<'n> Checker<'n> {
         takes: Takes,
         given: &Option<Formula>,
     ) -> Option<Breach>
-        ensures { result ≡ first_among found (each (formula_breaches (in_view self.now.at.uses) false takes) (maybe (option_map (formula_tree self.now.names) given.now))) }
+        ensures { result ≡ first_among found (each (formula_breaches (in_view self.now.at.uses) false takes)
+            (maybe (option_map (formula_tree self.now.names) given.now))) }
     {
         let Some(given) = given else {
             return found;
@@ -235,7 +257,10 @@ impl<'n> Checker<'n> {
     /// Takes the places of patterns into scope, and gives where they begin.
     pub fn enter(&mut self, patterns: &LocatedList) -> Result<Mark, Memory>
         ensures mark { IfOk result (λ mark. IsMark mark self.old.at.uses) }
-        ensures places { OnOk result (self.new ≡ record { names = self.old.names; at = record self.old.at { uses = seen_in self.old.at (row (map (located_tree self.old.names) patterns.now)) } }) }
+        ensures places { OnOk result (self.new ≡ record {
+          names = self.old.names;
+          at = record self.old.at { uses = seen_in self.old.at (row (map (located_tree self.old.names) patterns.now)) };
+        }) }
     {
         let mark = self.mark();
         match enter(&mut self.variables, &mut self.costs, patterns) {
@@ -277,7 +302,11 @@ impl<'n> Checker<'n> {
         optionals: &OptionalList,
     ) -> Result<Option<Breach>, Memory>
         ensures kept { OnOk result (self.new ≡ self.old) }
-        ensures found { IfOk result (λ first. first ≡ first_among found (both (match_breaches self.old.at.uses (block_tree self.old.names main.now) (row (map (optional_tree self.old.names) optionals.now.items))) (construct_breaches (graphs_in self.old.at) self.old.at.uses (row (map (item_tree self.old.names) items.now.items)) (block_tree self.old.names main.now) (row (map (optional_tree self.old.names) optionals.now.items))))) }
+        ensures found { IfOk result (λ first. first ≡ first_among found
+            (both (match_breaches self.old.at.uses (block_tree self.old.names main.now)
+            (row (map (optional_tree self.old.names) optionals.now.items)))
+            (construct_breaches (graphs_in self.old.at) self.old.at.uses (row (map (item_tree self.old.names) items.now.items))
+            (block_tree self.old.names main.now) (row (map (optional_tree self.old.names) optionals.now.items))))) }
     {
         let mark = self.mark();
         let first = basic(
@@ -338,7 +367,8 @@ fn enter_chains(
     requires costs { costs.old.order ≡ cost_names variables.old.uses }
     ensures variables { variables.new.names ≡ variables.old.names }
     ensures costs { costs.new.names ≡ costs.old.names }
-    ensures uses { OnOk result (variables.new.uses ≡ variables.old.uses ++ all_of (all_of pattern_uses) (rows (map (λ c. map (pattern_tree variables.old.names) c.parts) chains.now))) }
+    ensures uses { OnOk result (variables.new.uses ≡ variables.old.uses ++ all_of (all_of pattern_uses)
+        (rows (map (λ c. map (pattern_tree variables.old.names) c.parts) chains.now))) }
     ensures order { OnOk result (costs.new.order ≡ cost_names variables.new.uses) }
 {
     let from = variables.len();

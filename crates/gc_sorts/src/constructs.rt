@@ -115,7 +115,8 @@ fn terms(found: Option<Breach>, making: &Making, group: &GroupTermList) -> Optio
 
 // The GROUP of an element.
 fn grouped(found: Option<Breach>, making: &Making, place: Option<UseAt>) -> Option<Breach>
-    ensures { result ≡ first_among found (constructs.each_twice making.now.all.matched making.now.all.groups (map (use_by making.now.names) (option_to_list place))) }
+    ensures { result ≡ first_among found (constructs.each_twice making.now.all.matched making.now.all.groups
+        (map (use_by making.now.names) (option_to_list place))) }
 {
     match place {
         None => found,
@@ -129,7 +130,8 @@ fn grouped(found: Option<Breach>, making: &Making, place: Option<UseAt>) -> Opti
 
 // The `=` of an element.
 fn copied(found: Option<Breach>, making: &Making, place: Option<UseAt>) -> Option<Breach>
-    ensures { result ≡ first_among found (constructs.each_twice making.now.all.matched making.now.all.copies (map (use_by making.now.names) (option_to_list place))) }
+    ensures { result ≡ first_among found (constructs.each_twice making.now.all.matched making.now.all.copies
+        (map (use_by making.now.names) (option_to_list place))) }
 {
     match place {
         None => found,
@@ -198,7 +200,8 @@ fn stored(
     name: NameAt,
     given: &AssignList,
 ) -> Option<Breach>
-    ensures { result ≡ first_among found (constructs.stored_breaches making.now.all (named making.now.names name) (row (map (assign_tree making.now.names) given.now.items))) }
+    ensures { result ≡ first_among found (constructs.stored_breaches making.now.all (named making.now.names name)
+        (row (map (assign_tree making.now.names) given.now.items))) }
 {
     let place = making.given();
     let found = name_at(found, &place, Takes::Walked, name.sym, name.token as u64);
@@ -280,7 +283,8 @@ fn changes(found: Option<Breach>, making: &Making, all: &ChangeList) -> Option<B
 
 // The condition of an item.
 fn condition(found: Option<Breach>, making: &Making, when: &Option<Formula>) -> Option<Breach>
-    ensures { result ≡ first_among found (each (constructs.formula_breaches (constructs.when_ making.now.all) false takes.Condition) (maybe (option_map (formula_tree making.now.names) when.now))) }
+    ensures { result ≡ first_among found (each (constructs.formula_breaches (constructs.when_ making.now.all) false takes.Condition)
+        (maybe (option_map (formula_tree making.now.names) when.now))) }
 {
     match when {
         None => found,
@@ -318,7 +322,8 @@ pub(crate) fn items(
     all: &ItemList,
 ) -> Option<Breach>
     requires { graphs.now.names ≡ making.now.names }
-    ensures { result ≡ first_among found (each (constructs.item_breaches (known graphs.now) making.now.all) (row (map (item_tree making.now.names) all.now.items))) }
+    ensures { result ≡ first_among found (each (constructs.item_breaches (known graphs.now) making.now.all)
+        (row (map (item_tree making.now.names) all.now.items))) }
 {
     let mut found = found;
     for one in all {

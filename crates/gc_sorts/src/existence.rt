@@ -116,7 +116,9 @@ fn is_bare_chain(
     changes: &ChangeList,
     condition: &Option<Formula>,
 ) -> bool
-    ensures { result ≡ (is_only is_bare_part (row (map (part_tree checker.now.names) parts.now.items)) && (is_none (row (map (change_tree checker.now.names) changes.now.items)) && is_none (maybe (option_map (formula_tree checker.now.names) condition.now)))) }
+    ensures { result ≡ (is_only is_bare_part (row (map (part_tree checker.now.names) parts.now.items)) &&
+        (is_none (row (map (change_tree checker.now.names) changes.now.items)) && is_none
+        (maybe (option_map (formula_tree checker.now.names) condition.now)))) }
 {
     only_part(checker, parts) && (no_changes(checker, changes) && no_condition(checker, condition))
 }

@@ -140,7 +140,8 @@ pub(crate) fn expression(
     takes: Takes,
     expr: &Expr,
 ) -> Option<Breach>
-    ensures { (at : ℕ) → result ≡ first_among found (expression_breaches place.now.at folds takes at (renamed (name_of place.now.names) (numbered_expr expr.now))) }
+    ensures { (at : ℕ) → result ≡ first_among found (expression_breaches place.now.at folds takes at
+        (renamed (name_of place.now.names) (numbered_expr expr.now))) }
 {
     let token = expr.token as u64;
     let found = misfit(found, takes, node_form(place, &expr.node), token);
@@ -203,7 +204,8 @@ fn node(
 #[tactic(auto, unfolding(gc_expr::specs::Trees::renamed, gc_expr::specs::Views::numbered_expr, crate::specs::Expressions::expression_breaches))]
 #[cycle(expression)]
 fn conditions(found: Option<Breach>, place: &Place, folds: bool, parts: &ExprList) -> Option<Breach>
-    ensures { (at : ℕ) → result ≡ first_among found (expression_breaches place.now.at folds takes.Condition at (renamed (name_of place.now.names) (row (map numbered_expr parts.now.items)))) }
+    ensures { (at : ℕ) → result ≡ first_among found (expression_breaches place.now.at folds takes.Condition at
+        (renamed (name_of place.now.names) (row (map numbered_expr parts.now.items)))) }
 {
     let mut found = found;
     for part in parts {
@@ -220,7 +222,8 @@ fn sum_parts(
     folds: bool,
     parts: &SumPartList,
 ) -> Option<Breach>
-    ensures { (at : ℕ) → result ≡ first_among found (expression_breaches place.now.at folds takes.Value at (renamed (name_of place.now.names) (row (map numbered_sum_part parts.now.items)))) }
+    ensures { (at : ℕ) → result ≡ first_among found (expression_breaches place.now.at folds takes.Value at
+        (renamed (name_of place.now.names) (row (map numbered_sum_part parts.now.items)))) }
 {
     let mut found = found;
     for part in parts {
@@ -237,7 +240,8 @@ fn product_parts(
     folds: bool,
     parts: &ProductPartList,
 ) -> Option<Breach>
-    ensures { (at : ℕ) → result ≡ first_among found (expression_breaches place.now.at folds takes.Value at (renamed (name_of place.now.names) (row (map numbered_product_part parts.now.items)))) }
+    ensures { (at : ℕ) → result ≡ first_among found (expression_breaches place.now.at folds takes.Value at
+        (renamed (name_of place.now.names) (row (map numbered_product_part parts.now.items)))) }
 {
     let mut found = found;
     for part in parts {

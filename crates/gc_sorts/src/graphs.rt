@@ -35,7 +35,8 @@ impl<'a> Model for GraphNames<'a> {
 
     ghost view = { λ g. record { names = g.declared.names; loaded = g.loaded.now; declared = g.declared.order } };
 
-    ghost invariant = { λ g. (length g.is_loaded.items ≡ length g.declared.names + 1) × ((sym : Sym) → slice_index_or g.is_loaded.items (slot (length g.declared.names) sym) false ≡ has_name g.loaded.now (name_of g.declared.names sym)) };
+    ghost invariant = { λ g. (length g.is_loaded.items ≡ length g.declared.names + 1) ×
+        ((sym : Sym) → slice_index_or g.is_loaded.items (slot (length g.declared.names) sym) false ≡ has_name g.loaded.now (name_of g.declared.names sym)) };
 }
 
 impl<'a> GraphNames<'a> {
@@ -95,7 +96,8 @@ impl<'a> GraphNames<'a> {
 // Whether each slot of a table has the name of a graph of the session.
 fn loaded_slots(alloc: Global, names: &NameTable, loaded: &NameList) -> Result<Vec<bool>, Memory>
     ensures length { IfOk result (λ slots. length slots.items ≡ length names.now + 1) }
-    ensures slots { IfOk result (λ slots. (sym : Sym) → slice_index_or slots.items (slot (length names.now) sym) false ≡ has_name loaded.now (name_of names.now sym)) }
+    ensures slots { IfOk result (λ slots. (sym : Sym) → slice_index_or slots.items (slot (length names.now) sym) false ≡ has_name loaded.now
+        (name_of names.now sym)) }
 {
     let mut slots = no_slots(alloc, names.len())?;
     for name in loaded.as_slice() {
@@ -108,7 +110,8 @@ fn loaded_slots(alloc: Global, names: &NameTable, loaded: &NameList) -> Result<V
 fn load(slots: &mut Vec<bool>, names: &NameTable, name: &Name)
     requires { length slots.old.items ≡ length names.now + 1 }
     ensures length { length slots.new.items ≡ length names.now + 1 }
-    ensures slots { (sym : Sym) → slice_index_or slots.new.items (slot (length names.now) sym) false ≡ (slice_index_or slots.old.items (slot (length names.now) sym) false || same_name (name_of names.now sym) name.now) }
+    ensures slots { (sym : Sym) → slice_index_or slots.new.items (slot (length names.now) sym) false ≡
+        (slice_index_or slots.old.items (slot (length names.now) sym) false || same_name (name_of names.now sym) name.now) }
 {
     read_words(names);
     let _distinct = names.as_slice();

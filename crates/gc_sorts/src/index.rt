@@ -33,7 +33,9 @@ impl<'a> Model for Index<'a> {
 
     ghost view = { λ x. record { names = x.names.now; order = map (name_of x.names.now) x.syms.items } };
 
-    ghost invariant = { λ x. (list_all is_word x.names.now ≡ true) × IsDistinct same_name x.names.now × (length x.first.items ≡ length x.names.now + 1) × ((k : ℕ) → k ≤ length x.names.now → slice_index_or x.first.items k None ≡ position (has_slot (length x.names.now) k) x.syms.items) };
+    ghost invariant = { λ x. (list_all is_word x.names.now ≡ true) × IsDistinct same_name x.names.now ×
+        (length x.first.items ≡ length x.names.now + 1) × ((k : ℕ) → k ≤ length x.names.now → slice_index_or x.first.items k None ≡ position
+        (has_slot (length x.names.now) k) x.syms.items) };
 }
 
 impl<'a> Index<'a> {

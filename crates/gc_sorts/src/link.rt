@@ -67,14 +67,17 @@ pub(crate) fn fits(variables: &Variables, a: LinkAt, b: LinkAt) -> bool
 }
 
 fn fits_straight(variables: &Variables, a: LinkAt, b: LinkAt) -> bool
-    ensures { result ≡ (same_neighbour (option_map (name_of variables.now.names) a.left) (option_map (name_of variables.now.names) b.left) && (same_neighbour (option_map (name_of variables.now.names) a.right) (option_map (name_of variables.now.names) b.right) && same_way a.way b.way)) }
+    ensures { result ≡ (same_neighbour (option_map (name_of variables.now.names) a.left) (option_map (name_of variables.now.names) b.left) &&
+        (same_neighbour (option_map (name_of variables.now.names) a.right) (option_map (name_of variables.now.names) b.right) && same_way a.way b.way)) }
 {
     same_neighbour(variables, a.left, b.left)
         && (same_neighbour(variables, a.right, b.right) && same_way(a.way, b.way))
 }
 
 fn fits_turned(variables: &Variables, a: LinkAt, b: LinkAt) -> bool
-    ensures { result ≡ (same_neighbour (option_map (name_of variables.now.names) a.left) (option_map (name_of variables.now.names) b.right) && (same_neighbour (option_map (name_of variables.now.names) a.right) (option_map (name_of variables.now.names) b.left) && same_way a.way (turned b.way))) }
+    ensures { result ≡ (same_neighbour (option_map (name_of variables.now.names) a.left) (option_map (name_of variables.now.names) b.right) &&
+        (same_neighbour (option_map (name_of variables.now.names) a.right) (option_map (name_of variables.now.names) b.left) && same_way a.way
+        (turned b.way))) }
 {
     same_neighbour(variables, a.left, b.right)
         && (same_neighbour(variables, a.right, b.left) && same_way(a.way, turned(b.way)))

@@ -53,7 +53,8 @@ fn bound_if(
     link: LinkAt,
     token: u64,
 ) -> Option<Breach>
-    ensures { result ≡ first_among found (linking.bound_if matched.now.uses (map (link_by matched.now.names) links.now) (link_by matched.now.names link) token) }
+    ensures { result ≡ first_among found (linking.bound_if matched.now.uses (map (link_by matched.now.names) links.now)
+        (link_by matched.now.names link) token) }
 {
     if matched.has(link.name) {
         bound_link(found, matched, links, link, token)
@@ -85,7 +86,9 @@ fn loose_edge(
     token: u64,
     name: Option<Sym>,
 ) -> Option<Breach>
-    ensures { result ≡ first_among found (linking.loose_edge matched.now.uses (map (link_by matched.now.names) links.now) (option_map (name_of matched.now.names) left) (option_map (name_of matched.now.names) right) way token (option_map (name_of matched.now.names) name)) }
+    ensures { result ≡ first_among found (linking.loose_edge matched.now.uses (map (link_by matched.now.names) links.now)
+        (option_map (name_of matched.now.names) left) (option_map (name_of matched.now.names) right) way token
+        (option_map (name_of matched.now.names) name)) }
 {
     let Some(name) = name else {
         return noted_if(found, way == Direction::Either, SortRule::LooseEdge, token);
@@ -112,7 +115,14 @@ fn loose_path(
     token: u32,
     path: NameAt,
 ) -> Option<Breach>
-    ensures { result ≡ first_among found (linking.bound_if matched.now.uses (map (link_by matched.now.names) links.now) (record { name = name_of matched.now.names path.sym; left = option_map (name_of matched.now.names) left; right = option_map (name_of matched.now.names) right; way = Forward }) (token + 1)) }
+    ensures { result ≡ first_among found (linking.bound_if matched.now.uses (map (link_by matched.now.names) links.now)
+        (record {
+          name = name_of matched.now.names path.sym;
+          left = option_map (name_of matched.now.names) left;
+          right = option_map
+              (name_of matched.now.names) right;
+          way = Forward;
+        }) (token + 1)) }
 {
     let link = LinkAt {
         name: path.sym,
@@ -153,7 +163,8 @@ fn loose_part(
     right: Option<Sym>,
     part: &ConstructPart,
 ) -> Option<Breach>
-    ensures { result ≡ first_among found (linking.loose_part matched.now.uses (map (link_by matched.now.names) links.now) (option_map (name_of matched.now.names) left) (option_map (name_of matched.now.names) right) (part_tree matched.now.names part.now)) }
+    ensures { result ≡ first_among found (linking.loose_part matched.now.uses (map (link_by matched.now.names) links.now)
+        (option_map (name_of matched.now.names) left) (option_map (name_of matched.now.names) right) (part_tree matched.now.names part.now)) }
 {
     match part {
         ConstructPart::Node(_) => found,
@@ -177,7 +188,8 @@ fn loose_parts(
     links: &[LinkAt],
     parts: &ConstructPartList,
 ) -> Option<Breach>
-    ensures { result ≡ first_among found (linking.loose_parts matched.now.uses (map (link_by matched.now.names) links.now) None (row (map (part_tree matched.now.names) parts.now.items))) }
+    ensures { result ≡ first_among found (linking.loose_parts matched.now.uses (map (link_by matched.now.names) links.now) None
+        (row (map (part_tree matched.now.names) parts.now.items))) }
 {
     let mut found = found;
     let mut left = None;
@@ -198,7 +210,8 @@ fn loose_item(
     links: &[LinkAt],
     item: &Item,
 ) -> Option<Breach>
-    ensures { result ≡ first_among found (linking.loose_item matched.now.uses (map (link_by matched.now.names) links.now) (item_tree matched.now.names item.now)) }
+    ensures { result ≡ first_among found (linking.loose_item matched.now.uses (map (link_by matched.now.names) links.now)
+        (item_tree matched.now.names item.now)) }
 {
     match item {
         Item::Graph(_) => found,
@@ -213,7 +226,8 @@ pub(crate) fn loose_items(
     links: &[LinkAt],
     items: &ItemList,
 ) -> Option<Breach>
-    ensures { result ≡ first_among found (each (linking.loose_item matched.now.uses (map (link_by matched.now.names) links.now)) (row (map (item_tree matched.now.names) items.now.items))) }
+    ensures { result ≡ first_among found (each (linking.loose_item matched.now.uses (map (link_by matched.now.names) links.now))
+        (row (map (item_tree matched.now.names) items.now.items))) }
 {
     let mut found = found;
     for item in items {

@@ -32,7 +32,15 @@ impl<'n> Model for Makes<'n> {
 
     ghost Value = { holders.HeldMade };
 
-    ghost view = { λ m. record { names = m.made.names; all = record { made = m.made.uses; stored = m.stored.order; groups = m.groups.uses; copies = m.copies.uses } } };
+    ghost view = { λ m. record {
+      names = m.made.names;
+      all = record {
+        made = m.made.uses;
+        stored = m.stored.order;
+        groups = m.groups.uses;
+        copies = m.copies.uses;
+      };
+    } };
 
     ghost invariant = { λ m. (m.stored.names ≡ m.made.names) × (m.groups.names ≡ m.made.names) × (m.copies.names ≡ m.made.names) };
 }
@@ -124,7 +132,8 @@ fn use_before(role: Role, name: &Option<NameAt>, token: u32) -> Option<UseAt>
 
 /// The word GROUP of a named element.
 pub(crate) fn group_use(role: Role, name: &Option<NameAt>, group: &GroupTermList) -> Option<UseAt>
-    ensures { (names : Names) → map (use_by names) (option_to_list result) ≡ group_uses role (named_if names name.now) (row (map (group_term_tree names) group.now)) }
+    ensures { (names : Names) → map (use_by names) (option_to_list result) ≡ group_uses role (named_if names name.now)
+        (row (map (group_term_tree names) group.now)) }
 {
     match group.as_slice().first() {
         None => None,

@@ -54,7 +54,9 @@ fn add_link(
     name: Option<Sym>,
     way: Direction,
 ) -> Result<(), Memory>
-    ensures { OnOk result (map (link_by before.now.names) links.new.items ≡ map (link_by before.now.names) links.old.items ++ linking.link_if before.now.uses (option_map (name_of before.now.names) name) (option_map (name_of before.now.names) left) (option_map (name_of before.now.names) right) way) }
+    ensures { OnOk result (map (link_by before.now.names) links.new.items ≡ map
+        (link_by before.now.names) links.old.items ++ linking.link_if before.now.uses (option_map (name_of before.now.names) name)
+        (option_map (name_of before.now.names) left) (option_map (name_of before.now.names) right) way) }
 {
     let Some(name) = name else {
         return Ok(());
@@ -79,7 +81,9 @@ fn add_pattern(
     right: Option<Sym>,
     part: &Pattern,
 ) -> Result<(), Memory>
-    ensures { OnOk result (map (link_by before.now.names) links.new.items ≡ map (link_by before.now.names) links.old.items ++ linking.pattern_links before.now.uses (option_map (name_of before.now.names) left) (option_map (name_of before.now.names) right) (pattern_tree before.now.names part.now)) }
+    ensures { OnOk result (map (link_by before.now.names) links.new.items ≡ map
+        (link_by before.now.names) links.old.items ++ linking.pattern_links before.now.uses (option_map (name_of before.now.names) left)
+        (option_map (name_of before.now.names) right) (pattern_tree before.now.names part.now)) }
 {
     match part {
         Pattern::Node(_) => Ok(()),
@@ -101,7 +105,8 @@ fn add_pattern(
 
 // Adds the links of a chain.
 fn add_chain(links: &mut Vec<LinkAt>, before: &Variables, parts: &PatternList) -> Result<(), Memory>
-    ensures { OnOk result (map (link_by before.now.names) links.new.items ≡ map (link_by before.now.names) links.old.items ++ linking.chain_links before.now.uses None (row (map (pattern_tree before.now.names) parts.now))) }
+    ensures { OnOk result (map (link_by before.now.names) links.new.items ≡ map
+        (link_by before.now.names) links.old.items ++ linking.chain_links before.now.uses None (row (map (pattern_tree before.now.names) parts.now))) }
 {
     let mut left = None;
     let mut number = 0;
@@ -119,7 +124,8 @@ fn add_located(
     before: &Variables,
     patterns: &LocatedList,
 ) -> Result<(), Memory>
-    ensures { OnOk result (map (link_by before.now.names) links.new.items ≡ map (link_by before.now.names) links.old.items ++ all_of (linking.located_links before.now.uses) (row (map (located_tree before.now.names) patterns.now))) }
+    ensures { OnOk result (map (link_by before.now.names) links.new.items ≡ map (link_by before.now.names) links.old.items ++ all_of
+        (linking.located_links before.now.uses) (row (map (located_tree before.now.names) patterns.now))) }
 {
     for located in patterns.as_slice() {
         add_chain(links, before, &located.chain.parts)?;
@@ -134,7 +140,8 @@ pub(crate) fn add_links(
     before: &Variables,
     block: &MatchBlock,
 ) -> Result<(), Memory>
-    ensures { OnOk result (map (link_by before.now.names) links.new.items ≡ map (link_by before.now.names) links.old.items ++ linking.block_links before.now.uses (block_tree before.now.names block.now)) }
+    ensures { OnOk result (map (link_by before.now.names) links.new.items ≡ map
+        (link_by before.now.names) links.old.items ++ linking.block_links before.now.uses (block_tree before.now.names block.now)) }
 {
     add_located(links, before, &block.patterns)
 }

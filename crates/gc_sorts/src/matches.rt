@@ -147,8 +147,10 @@ fn add_shared(
 ) -> Result<Option<Breach>, Memory>
     ensures names { variables.new.names ≡ variables.old.names }
     ensures uses { OnOk result (variables.new.uses ≡ variables.old.uses ++ optional_uses (optional_tree variables.old.names optional.now)) }
-    ensures links { OnOk result (map (link_by variables.old.names) links.new.items ≡ map (link_by variables.old.names) links.old.items ++ optional_links variables.old.uses (row (optional_tree variables.old.names optional.now ∷ []))) }
-    ensures found { IfOk result (λ first. first ≡ first_among found (shared_breaches mandatory variables.old.uses (row (optional_tree variables.old.names optional.now ∷ [])))) }
+    ensures links { OnOk result (map (link_by variables.old.names) links.new.items ≡ map
+        (link_by variables.old.names) links.old.items ++ optional_links variables.old.uses (row (optional_tree variables.old.names optional.now ∷ []))) }
+    ensures found { IfOk result (λ first. first ≡ first_among found (shared_breaches mandatory variables.old.uses
+        (row (optional_tree variables.old.names optional.now ∷ [])))) }
 {
     let from = variables.len();
     add_links(links, variables, &optional.block)?;
@@ -165,9 +167,13 @@ pub(crate) fn add_optionals(
     optionals: &OptionalList,
 ) -> Result<Option<Breach>, Memory>
     ensures names { variables.new.names ≡ variables.old.names }
-    ensures uses { OnOk result (variables.new.uses ≡ variables.old.uses ++ all_of optional_uses (row (map (optional_tree variables.old.names) optionals.now.items))) }
-    ensures links { OnOk result (map (link_by variables.old.names) links.new.items ≡ map (link_by variables.old.names) links.old.items ++ optional_links variables.old.uses (row (map (optional_tree variables.old.names) optionals.now.items))) }
-    ensures found { IfOk result (λ first. first ≡ first_among found (shared_breaches (length variables.old.uses) variables.old.uses (row (map (optional_tree variables.old.names) optionals.now.items)))) }
+    ensures uses { OnOk result (variables.new.uses ≡ variables.old.uses ++ all_of optional_uses
+        (row (map (optional_tree variables.old.names) optionals.now.items))) }
+    ensures links { OnOk result (map (link_by variables.old.names) links.new.items ≡ map
+        (link_by variables.old.names) links.old.items ++ optional_links variables.old.uses
+        (row (map (optional_tree variables.old.names) optionals.now.items))) }
+    ensures found { IfOk result (λ first. first ≡ first_among found (shared_breaches (length variables.old.uses) variables.old.uses
+        (row (map (optional_tree variables.old.names) optionals.now.items)))) }
 {
     let mandatory = variables.len();
     let mut found = found;

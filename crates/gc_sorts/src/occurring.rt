@@ -57,7 +57,8 @@ fn chain(found: &mut Found, sight: &Sight, chain: &Chain) -> Result<(), Memory>
 
 /// Adds what stands in the chains of a view.
 pub(crate) fn chains(found: &mut Found, sight: &Sight, all: &ChainList) -> Result<(), Memory>
-    ensures { OnOk result (found.new ≡ collect found.old (each (each (in_pattern sight.now.at)) (rows (map (λ c. map (pattern_tree sight.now.names) c.parts) all.now)))) }
+    ensures { OnOk result (found.new ≡ collect found.old (each (each (in_pattern sight.now.at))
+        (rows (map (λ c. map (pattern_tree sight.now.names) c.parts) all.now)))) }
 {
     for one in all.as_slice() {
         chain(found, sight, one)?;

@@ -113,7 +113,8 @@ fn all_located(
     patterns: &LocatedList,
 ) -> Option<Breach>
     requires { graphs.now.names ≡ views.now.names }
-    ensures { result ≡ first_among found (each (located_breaches (known graphs.now) views.now.order) (row (map (located_tree views.now.names) patterns.now))) }
+    ensures { result ≡ first_among found (each (located_breaches (known graphs.now) views.now.order)
+        (row (map (located_tree views.now.names) patterns.now))) }
 {
     let mut found = found;
     for pattern in patterns.as_slice() {
@@ -131,7 +132,8 @@ pub(crate) fn block_patterns(
     patterns: &LocatedList,
 ) -> Result<Option<Breach>, Memory>
     requires { graphs.now.names ≡ views.now.names }
-    ensures { IfOk result (λ first. first ≡ first_among found (patterns_breaches (known graphs.now) views.now.order (row (map (located_tree views.now.names) patterns.now)))) }
+    ensures { IfOk result (λ first. first ≡ first_among found (patterns_breaches (known graphs.now) views.now.order
+        (row (map (located_tree views.now.names) patterns.now)))) }
 {
     let found = all_located(found, graphs, views, patterns);
     let tokens = located_tokens(alloc, patterns)?;
@@ -167,7 +169,8 @@ fn begins_with_edge(chains: &ChainList) -> bool
 }
 
 fn all_chains(found: Option<Breach>, views: &Index, chains: &ChainList) -> Option<Breach>
-    ensures { result ≡ first_among found (each (each (pattern_breaches views.now.order)) (rows (map (λ c. map (pattern_tree views.now.names) c.parts) chains.now))) }
+    ensures { result ≡ first_among found (each (each (pattern_breaches views.now.order))
+        (rows (map (λ c. map (pattern_tree views.now.names) c.parts) chains.now))) }
 {
     let mut found = found;
     for one in chains.as_slice() {
@@ -184,7 +187,8 @@ pub(crate) fn view_chains(
     name: NameAt,
     chains: &ChainList,
 ) -> Result<Option<Breach>, Memory>
-    ensures { IfOk result (λ first. first ≡ first_among found (chains_breaches views.now.order (named views.now.names name) (rows (map (λ c. map (pattern_tree views.now.names) c.parts) chains.now)))) }
+    ensures { IfOk result (λ first. first ≡ first_among found (chains_breaches views.now.order (named views.now.names name)
+        (rows (map (λ c. map (pattern_tree views.now.names) c.parts) chains.now)))) }
 {
     let has_edge = begins_with_edge(chains);
     let found = noted_if(found, !has_edge, SortRule::ViewNeedsEdge, name.token as u64);

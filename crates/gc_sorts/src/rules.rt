@@ -26,7 +26,9 @@ fn view(
     cost: &Option<Formula>,
 ) -> Result<Option<Breach>, Memory>
     ensures kept { OnOk result (checker.new ≡ checker.old) }
-    ensures found { IfOk result (λ first. first ≡ first_among found (view_breaches checker.old.at (named checker.old.names name) (rows (map (λ c. map (pattern_tree checker.old.names) c.parts) chains.now)) (maybe (option_map (formula_tree checker.old.names) filter.now)) (maybe (option_map (formula_tree checker.old.names) cost.now)))) }
+    ensures found { IfOk result (λ first. first ≡ first_among found (view_breaches checker.old.at (named checker.old.names name)
+        (rows (map (λ c. map (pattern_tree checker.old.names) c.parts) chains.now)) (maybe (option_map (formula_tree checker.old.names) filter.now))
+        (maybe (option_map (formula_tree checker.old.names) cost.now)))) }
 {
     let found = checker.taken_view(found, name);
     let found = checker.chains(found, name, chains)?;
@@ -63,7 +65,11 @@ fn heads(
     found: Option<Breach>,
     heads: &HeadList,
 ) -> Result<Option<Breach>, Memory>
-    ensures behind { OnOk result (checker.new ≡ record { names = checker.old.names; at = behind_all checker.old.at (row (map (head_tree checker.old.names) heads.now.items)) }) }
+    ensures behind { OnOk result (checker.new ≡ record {
+      names = checker.old.names;
+      at = behind_all checker.old.at
+          (row (map (head_tree checker.old.names) heads.now.items));
+    }) }
     ensures found { IfOk result (λ first. first ≡ first_among found (breaches checker.old.at (row (map (head_tree checker.old.names) heads.now.items)))) }
 {
     let mut found = found;
@@ -168,7 +174,8 @@ fn optionals(
     optionals: &OptionalList,
 ) -> Result<Option<Breach>, Memory>
     ensures kept { OnOk result (checker.new ≡ checker.old) }
-    ensures found { IfOk result (λ first. first ≡ first_among found (breaches checker.old.at (row (map (optional_tree checker.old.names) optionals.now.items)))) }
+    ensures found { IfOk result (λ first. first ≡ first_among found (breaches checker.old.at
+        (row (map (optional_tree checker.old.names) optionals.now.items)))) }
 {
     let mut found = found;
     for one in optionals {
@@ -214,7 +221,8 @@ fn filter(
     filter: &Option<Formula>,
 ) -> Result<Option<Breach>, Memory>
     ensures kept { OnOk result (checker.new ≡ checker.old) }
-    ensures found { IfOk result (λ first. first ≡ first_among found (breaches checker.old.at (maybe (option_map (formula_tree checker.old.names) filter.now)))) }
+    ensures found { IfOk result (λ first. first ≡ first_among found (breaches checker.old.at
+        (maybe (option_map (formula_tree checker.old.names) filter.now)))) }
 {
     match filter {
         None => Ok(found),

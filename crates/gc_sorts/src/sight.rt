@@ -27,7 +27,16 @@ impl<'n> Model for Sight<'n> {
 
     ghost Value = { collected.HeldScope };
 
-    ghost view = { λ s. record { names = s.names.now; at = record { loaded = s.loaded.now; declared = s.declared.order; views = s.views.order; numbers = s.numbers.items; heads = s.heads } } };
+    ghost view = { λ s. record {
+      names = s.names.now;
+      at = record {
+        loaded = s.loaded.now;
+        declared = s.declared.order;
+        views = s.views.order;
+        numbers = s.numbers.items;
+        heads = s.heads;
+      };
+    } };
 
     ghost invariant = { λ s. (s.declared.names ≡ s.names.now) × (s.views.names ≡ s.names.now) × (length s.numbers.items ≡ length s.views.order) };
 }
@@ -93,7 +102,14 @@ impl<'n> Sight<'n> {
 
     /// Keeps so many of the declared graphs and views.
     pub fn restore(&mut self, counts: Counts)
-        ensures { self.new ≡ record { names = self.old.names; at = record self.old.at { declared = take counts.declared self.old.at.declared; views = take counts.views self.old.at.views; numbers = take counts.views self.old.at.numbers } } }
+        ensures { self.new ≡ record {
+          names = self.old.names;
+          at = record self.old.at {
+            declared = take counts.declared self.old.at.declared;
+            views = take counts.views self.old.at.views;
+            numbers = take counts.views self.old.at.numbers;
+          };
+        } }
     {
         self.declared.cut(counts.declared);
         self.views.cut(counts.views);

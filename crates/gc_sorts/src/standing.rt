@@ -29,7 +29,15 @@ impl<'a, 'n> Model for Place<'a, 'n> {
 
     ghost Value = { holders.HeldPlace };
 
-    ghost view = { λ p. record { names = p.variables.now.names; at = record { uses = (if p.is_when then p.variables.now.uses ++ p.made.now.uses else p.variables.now.uses); stored = (if p.is_when then p.stored.now.order else []); exists = p.exists.now } } };
+    ghost view = { λ p. record {
+      names = p.variables.now.names;
+      at = record {
+        uses = (if p.is_when then p.variables.now.uses ++ p.made.now.uses else p.variables.now.uses);
+        stored =
+            (if p.is_when then p.stored.now.order else []);
+        exists = p.exists.now;
+      };
+    } };
 
     ghost invariant = { λ p. (p.made.now.names ≡ p.variables.now.names) × (p.stored.now.names ≡ p.variables.now.names) };
 }

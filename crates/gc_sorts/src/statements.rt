@@ -17,7 +17,11 @@ fn statement(
     found: Option<Breach>,
     statement: &Statement,
 ) -> Result<Option<Breach>, Memory>
-    ensures behind { OnOk result (checker.new ≡ record { names = checker.old.names; at = behind checker.old.at (statement_tree checker.old.names statement.now) }) }
+    ensures behind { OnOk result (checker.new ≡ record {
+      names = checker.old.names;
+      at = behind checker.old.at
+          (statement_tree checker.old.names statement.now);
+    }) }
     ensures found { IfOk result (λ first. first ≡ first_among found (breaches checker.old.at (statement_tree checker.old.names statement.now))) }
 {
     match statement {

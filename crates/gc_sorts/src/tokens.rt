@@ -22,7 +22,8 @@ pub(crate) fn located_tokens(alloc: Global, patterns: &LocatedList) -> Result<Ve
 
 /// The same of the chains of a view.
 pub(crate) fn chains_tokens(alloc: Global, chains: &ChainList) -> Result<Vec<u32>, Memory>
-    ensures { IfOk result (λ tokens. (names : Names) → tokens.items ≡ all_of (all_of sizes.pattern_tokens) (rows (map (λ c. map (pattern_tree names) c.parts) chains.now))) }
+    ensures { IfOk result (λ tokens. (names : Names) → tokens.items ≡ all_of (all_of sizes.pattern_tokens)
+        (rows (map (λ c. map (pattern_tree names) c.parts) chains.now))) }
 {
     let mut tokens = Vec::new(alloc);
     for chain in chains.as_slice() {

@@ -42,7 +42,8 @@ pub(crate) fn add_if(
 // Adds the places of properties.
 fn add_properties(variables: &mut Variables, properties: &PropertyUseList) -> Result<(), Memory>
     ensures names { variables.new.names ≡ variables.old.names }
-    ensures uses { OnOk result (variables.new.uses ≡ variables.old.uses ++ all_of property_uses (row (map (property_use_by (name_of variables.old.names)) properties.now))) }
+    ensures uses { OnOk result (variables.new.uses ≡ variables.old.uses ++ all_of property_uses
+        (row (map (property_use_by (name_of variables.old.names)) properties.now))) }
 {
     for property in properties.as_slice() {
         add(variables, Role::Property, property.value)?;
@@ -109,7 +110,8 @@ pub(crate) fn add_located(variables: &mut Variables, patterns: &LocatedList) -> 
 /// Adds the places of the chains of a view.
 pub(crate) fn add_chains(variables: &mut Variables, chains: &ChainList) -> Result<(), Memory>
     ensures names { variables.new.names ≡ variables.old.names }
-    ensures uses { OnOk result (variables.new.uses ≡ variables.old.uses ++ all_of (all_of pattern_uses) (rows (map (λ c. map (pattern_tree variables.old.names) c.parts) chains.now))) }
+    ensures uses { OnOk result (variables.new.uses ≡ variables.old.uses ++ all_of (all_of pattern_uses)
+        (rows (map (λ c. map (pattern_tree variables.old.names) c.parts) chains.now))) }
 {
     for chain in chains.as_slice() {
         add_chain(variables, &chain.parts)?;
