@@ -57,8 +57,7 @@ impl<'n> Model for Checker<'n> {
 
     ghost view = { λ c. record {
       names = c.variables.names;
-      at = record
-          { loaded = c.graphs.loaded; declared = c.graphs.declared; views = c.views.order; uses = c.variables.uses };
+      at = record { loaded = c.graphs.loaded; declared = c.graphs.declared; views = c.views.order; uses = c.variables.uses };
     } };
 
     ghost invariant = { λ c. (c.graphs.names ≡ c.variables.names) × (c.views.names ≡ c.variables.names) × (c.costs.names ≡ c.variables.names) ×
