@@ -43,7 +43,7 @@ persons-interested-in-wagner
 $ run q social=w
 q: CONSTRUCT (n) MATCH (n:Person)-[:hasInterest]->(t:Tag) WHERE t.name = "Wagner"
 w: «W»
-= 0 {"edges":[],"gcore":1,"nodes":[«W3»],"paths":[]}
+= 0 {"edges":[],"gcore":1,"nodes":[«Celine»],"paths":[]}
 
 comments-and-white-space
 $ run q S=s

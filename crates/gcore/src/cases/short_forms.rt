@@ -68,9 +68,9 @@ E15={"from":3,"id":15,"labels":["knows"],"properties":{"msgs":[0]},"to":1}
 E16={"from":5,"id":16,"labels":["knows"],"properties":{"msgs":[0]},"to":5}
 E17={"from":1,"id":17,"labels":["knows"],"properties":{"msgs":[3]},"to":2}
 P4={"id":4,"labels":["Boss","Person"],"properties":{"employer":["CWI","MIT"],"name":["Dea"]}}
-W1={"id":1,"labels":["Person"],"properties":{"firstName":["John"]}}
-W2={"id":2,"labels":["Person"],"properties":{"firstName":["Peter"]}}
-W3={"id":3,"labels":["Person"],"properties":{"firstName":["Celine"]}}"#;
+John={"id":1,"labels":["Person"],"properties":{"firstName":["John"]}}
+Peter={"id":2,"labels":["Person"],"properties":{"firstName":["Peter"]}}
+Celine={"id":3,"labels":["Person"],"properties":{"firstName":["Celine"]}}"#;
 
 /// Whom John has to ask on his way to someone who is interested in Wagner.
 const FRIENDS: &str = r#"GRAPH VIEW social1 AS (
