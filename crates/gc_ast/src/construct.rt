@@ -2,7 +2,7 @@ use crate::query::Formula;
 use gc_base::{Direction, Name, NameAt, NameList, Sequence};
 
 /// An item of a CONSTRUCT.
-#[derive(Debug, Drop)]
+#[derive(Drop)]
 #[cycle(query)]
 pub enum Item {
     /// All of a named graph.
@@ -16,7 +16,7 @@ pub enum Item {
 }
 
 /// A node or a link of a construct chain.
-#[derive(Debug, Drop)]
+#[derive(Drop)]
 #[cycle(query)]
 pub enum ConstructPart {
     /// `(x)`
@@ -42,7 +42,7 @@ pub enum ConstructPart {
 
 /// A node or an edge of a construct chain: its name, the variable that it copies, the terms that it
 /// is grouped by, its labels and its properties. Its token is the first one of its pattern.
-#[derive(Debug, Drop)]
+#[derive(Drop)]
 #[cycle(query)]
 pub struct NewElement {
     pub token: u32,
@@ -54,14 +54,14 @@ pub struct NewElement {
 }
 
 /// A variable, or a property of one, to group by.
-#[derive(Debug, Drop)]
+#[derive(Drop)]
 pub struct GroupTerm {
     pub name: NameAt,
     pub property: Option<Name>,
 }
 
 /// `k := e`. Its token is the property's.
-#[derive(Debug, Drop)]
+#[derive(Drop)]
 #[cycle(query)]
 pub struct Assign {
     pub token: u32,
@@ -70,7 +70,7 @@ pub struct Assign {
 }
 
 /// A SET or REMOVE after a construct chain.
-#[derive(Debug, Drop)]
+#[derive(Drop)]
 #[cycle(query)]
 pub enum Change {
     /// `SET x.k := e`

@@ -9,7 +9,7 @@ use gc_base::{Numbered, Place};
 pub type PlaceList = Numbered<Place>;
 
 /// The statements of a file, its name table, the places where its tokens begin, and that of its end.
-#[derive(Debug, Drop)]
+#[derive(Drop)]
 pub struct File {
     pub statements: StatementList,
     pub names: NameTable,

@@ -5,8 +5,6 @@
 mod build_construct;
 mod build_query;
 mod construct;
-mod copy_pattern;
-mod copy_query;
 mod file;
 mod names;
 mod pattern;

@@ -10,7 +10,7 @@ use std::marker::Model;
 
 /// The names of a query file, numbered from 0 by first occurrence. Contracts see them in that order;
 /// each is there once.
-#[derive(Debug, Drop)]
+#[derive(Drop)]
 pub struct NameTable {
     names: IndexSet<Name>,
 }

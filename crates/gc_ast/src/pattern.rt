@@ -2,20 +2,20 @@ use gc_base::{Direction, LabelGroupList, Name, NameAt, Sequence};
 use gc_regx::Regex;
 
 /// A chain of patterns, on the graph of a name or on the one that is used without a name.
-#[derive(Debug, Drop)]
+#[derive(Drop)]
 pub struct Located {
     pub chain: Chain,
     pub on: Option<NameAt>,
 }
 
 /// The nodes of a chain and the links between them, in turn.
-#[derive(Debug, Drop)]
+#[derive(Drop)]
 pub struct Chain {
     pub parts: PatternList,
 }
 
 /// A node or a link of a chain.
-#[derive(Debug, Drop)]
+#[derive(Drop)]
 pub enum Pattern {
     /// `(x)`
     Node(Element),
@@ -34,7 +34,7 @@ pub enum Pattern {
 }
 
 /// What a node or edge pattern asks for. Its token is the first one of the pattern.
-#[derive(Debug, Drop)]
+#[derive(Drop)]
 pub struct Element {
     pub token: u32,
     pub name: Option<NameAt>,
@@ -43,7 +43,7 @@ pub struct Element {
 }
 
 /// `k=v`, which binds v to each value of k. Its token is the property's.
-#[derive(Debug, Drop)]
+#[derive(Drop)]
 pub struct PropertyUse {
     pub token: u32,
     pub property: Name,
@@ -51,7 +51,7 @@ pub struct PropertyUse {
 }
 
 /// What a path pattern asks for. `views` holds the names after `~`, in text order.
-#[derive(Debug, Drop)]
+#[derive(Drop)]
 pub enum PathBody {
     /// `<r>`
     Reach {
@@ -80,7 +80,7 @@ pub enum PathBody {
 }
 
 /// A number of paths, and its token.
-#[derive(Clone, Copy, Debug, PartialEq, Eq)]
+#[derive(Clone, Copy, PartialEq, Eq)]
 pub struct CountAt {
     pub count: i64,
     pub token: u32,

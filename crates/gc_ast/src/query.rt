@@ -4,7 +4,7 @@ use gc_base::NameAt;
 use gc_expr::Expr;
 
 /// A statement of a file.
-#[derive(Debug, Drop)]
+#[derive(Drop)]
 pub enum Statement {
     /// `GRAPH VIEW g AS (q)`
     View { name: NameAt, query: Query },
@@ -13,7 +13,7 @@ pub enum Statement {
 }
 
 /// A query: what it declares, and its terms, from the left.
-#[derive(Debug, Drop)]
+#[derive(Drop)]
 #[cycle(query)]
 pub struct Query {
     pub heads: HeadList,
@@ -22,7 +22,7 @@ pub struct Query {
 }
 
 /// A later term of a query.
-#[derive(Debug, Drop)]
+#[derive(Drop)]
 #[cycle(query)]
 pub struct NextTerm {
     pub op: SetOp,
@@ -30,7 +30,7 @@ pub struct NextTerm {
 }
 
 /// The set operations on graphs.
-#[derive(Clone, Copy, Debug, PartialEq, Eq)]
+#[derive(Clone, Copy, PartialEq, Eq)]
 pub enum SetOp {
     Union,
     Intersect,
@@ -38,7 +38,7 @@ pub enum SetOp {
 }
 
 /// A term of a query. A query in parentheses that has no heads and one term is that term.
-#[derive(Debug, Drop)]
+#[derive(Drop)]
 #[cycle(query)]
 pub enum Term {
     /// A CONSTRUCT with its MATCH.
@@ -50,7 +50,7 @@ pub enum Term {
 }
 
 /// What a query declares before its terms.
-#[derive(Debug, Drop)]
+#[derive(Drop)]
 #[cycle(query)]
 pub enum Head {
     /// `PATH v = .. WHERE e COST e`
@@ -69,7 +69,7 @@ pub enum Head {
 
 /// An expression, and the queries of its own EXISTS in text order. Those nested in such a query
 /// stand in that query's formulas.
-#[derive(Debug, Drop)]
+#[derive(Drop)]
 #[cycle(query)]
 pub struct Formula {
     pub expr: Expr,
@@ -77,7 +77,7 @@ pub struct Formula {
 }
 
 /// A CONSTRUCT with its MATCH. Its token is CONSTRUCT's.
-#[derive(Debug, Drop)]
+#[derive(Drop)]
 #[cycle(query)]
 pub struct Basic {
     pub token: u32,
@@ -87,7 +87,7 @@ pub struct Basic {
 }
 
 /// The patterns of a block and its condition.
-#[derive(Debug, Drop)]
+#[derive(Drop)]
 #[cycle(query)]
 pub struct MatchBlock {
     pub patterns: LocatedList,
@@ -95,7 +95,7 @@ pub struct MatchBlock {
 }
 
 /// An OPTIONAL block. Its token is OPTIONAL's.
-#[derive(Debug, Drop)]
+#[derive(Drop)]
 #[cycle(query)]
 pub struct OptionalBlock {
     pub token: u32,

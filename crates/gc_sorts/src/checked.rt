@@ -17,7 +17,7 @@ use gc_base::{BlockNo, NameList, Sym, ViewNo};
 
 /// A query file that breaks no sort rule over graphs of the names that it keeps, with what stands at its
 /// tokens.
-#[derive(Debug, Drop)]
+#[derive(Drop)]
 pub struct Checked {
     file: File,
     graphs: NameList,
