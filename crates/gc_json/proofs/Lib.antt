@@ -1,15 +1,23 @@
+mod ByToken
+mod EntryTurns
 pub mod FileAgrees
-mod Keys
+mod Framing
+mod Fuel
 mod GraphsLoadBack
 pub mod GraphsReadBack
-mod LikeObjects
+mod Growing
+mod Keys
+mod ListTurns
 mod ManyItems
 mod PartsLoadBack
+mod Passing
 pub mod ReadsBack
 mod Rest
+mod Search
 mod SortedSets
-mod MembersTaken
+mod TokenTurns
 mod Turns
-mod WalkTurns
 mod Utf8Texts
+mod WalkTurns
+mod Wholes
 mod WordTexts

@@ -6,6 +6,7 @@ use Rattle.gc_ppg.specs.declared.shape.Kind.TheVariants as kind
 use Rattle.serde_json.specs.Data.{Data, Items, no_items, item}
 use Rattle.serde_json.specs.Events.{items_len}
 use Rattle.serde_json.specs.Find.{as_object}
+use Rattle.serde_json.specs.Read.{read}
 use Rattle.gc_json.specs.FileElements.{Seen, add_element_of}
 use Rattle.gc_json.specs.JsonValues.{value_of, is_object_of, number_at, is_one, list_at}
 use Rattle.gc_json.specs.Reading.{◌>>=◌, or_refused}
@@ -87,6 +88,10 @@ graph_of_few seen l = if nat_le (items_len l.nodes + items_len l.edges + items_l
 -- the graph of a value
 abbrev pub graph_of_data : Seen → Data → Result PropertyGraph GraphRefusal
 graph_of_data seen d = located whole (lists_of d) >>= graph_of_few seen
+
+-- the graph of a text
+abbrev pub text_graph : Seen → List ℕ → Result PropertyGraph GraphRefusal
+text_graph seen text = or_refused refusal.NotJson (read text) >>= graph_of_data seen
 
 -- the graph of a file that stands beside the graphs of earlier files, or its first refusal
 abbrev pub file_graph : Seen → List ℕ → Result PropertyGraph GraphRefusal

@@ -1,8 +1,9 @@
 ghost use Rattle.std.specs.Prelude.{◌≡◌};
 ghost use Rattle.gc_json.specs.GraphFiles.{refusal_at};
-ghost use Rattle.gc_json.specs.Located.{failure_at};
+ghost use Rattle.gc_json.specs.Located.{failure_at, failure_of};
 
 use crate::refusal::{GraphRefusal, Spot};
+use crate::unread::Unread;
 use gc_base::{Id, Memory};
 use std::alloc::AllocFailed;
 
@@ -65,6 +66,17 @@ impl From<Fault> for Failure<Fault> {
 
     fn from(fault: Fault) -> Failure<Fault> {
         Failure::Refused(fault)
+    }
+}
+
+impl From<Unread> for Failure<GraphRefusal> {
+    ghost from_gives = { λ unread made. made ≡ failure_of unread };
+
+    fn from(unread: Unread) -> Failure<GraphRefusal> {
+        match unread {
+            Unread::NotJson => Failure::Refused(GraphRefusal::NotJson),
+            Unread::Memory => Failure::Memory,
+        }
     }
 }
 

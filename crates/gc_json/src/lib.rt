@@ -3,22 +3,28 @@
 //! canonical text, which loads as the graph again. This crate knows of no query and opens no file.
 #![tactic(auto)]
 
+mod checking;
 mod collected;
 mod edges;
 mod elements;
 mod fault;
+mod finding;
+mod first_pass;
+mod frame;
 mod labels;
 mod laws;
+mod listing;
 mod literals;
 mod loading;
 mod nodes;
+mod numbers;
 mod parts;
 mod paths;
 mod properties;
 mod refusal;
-mod release;
-mod taken;
 mod text;
+mod token_values;
+mod unread;
 mod values;
 mod walks;
 

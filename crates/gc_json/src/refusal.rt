@@ -22,6 +22,12 @@ pub struct Spot {
     pub index: usize,
 }
 
+// The spot of the file as a whole.
+pub(crate) const WHOLE: Spot = Spot {
+    part: Part::Whole,
+    index: 0,
+};
+
 /// Why a graph file gave no graph.
 #[derive(Clone, Copy, Debug, PartialEq, Eq, Error)]
 pub enum GraphRefusal {

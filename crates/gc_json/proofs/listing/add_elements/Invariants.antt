@@ -1,0 +1,13 @@
+use Rattle.std.proofs.Common.{◌≡◌, option_map, length}
+use Rattle.gc_json.specs.GraphFiles.{add_elements_of}
+use Rattle.gc_json.specs.Tokens.{items_data}
+use Rattle.gc_json.proofs.listing.add_elements.Given as goal
+
+-- the elements so far with the rest give what all give
+abbrev pub invariant-items : goal.invariant-items
+invariant-items l =
+    option_map (λ p. add_elements_of l.seen l.kind 0 l.initial.builder p.0) (items_data l.depth l.initial.reader)
+    ≡ option_map (λ p. add_elements_of l.seen l.kind l.index l.builder p.0) (items_data l.depth l.reader)
+
+abbrev pub decreases-items : goal.decreases-items
+decreases-items l = length l.reader
