@@ -12,6 +12,7 @@ use Rattle.gc_ppg.specs.Shapes.{agrees, graph_agrees}
 use Rattle.gc_ppg.specs.declared.shape.Kind.{Kind}
 use Rattle.gc_ppg.specs.declared.shape.Kind.TheVariants as kind
 use Rattle.serde_json.specs.Data.{Data, Items, no_items, item}
+use Rattle.gc_json.specs.ElementValues.{element_of}
 use Rattle.gc_json.specs.FileElements.{Seen, add_element_of, node_of, edge_of, path_of, agreeing}
 use Rattle.gc_json.specs.GraphFiles.{FileLists, located, part_of, add_elements_of, graph_of_lists, graph_of_few, graph_of_data, file_graph, lists_of, whole, Loads}
 use Rattle.gc_json.specs.JsonValues.{value_of}
@@ -87,15 +88,15 @@ module _ (seen : Seen) where
 
   added : (k : Kind) (g more : PropertyGraph) (d : Data) → Parts g → ◌≡◌ {A = Result PropertyGraph Fault} (add_element_of seen k g d) (Ok more) → Parts more
   added kind.Node g more d h due =
-      let n = bound (node_of g d) (λ n. agreeing seen n.id NodeShape (with_node g n)) more due in
+      let n = bound (node_of g (element_of kind.Node d)) (λ n. agreeing seen n.id NodeShape (with_node g n)) more due in
       let t = tested n.0.id NodeShape (with_node g n.0) more n.2 in
       subst Parts t.1 (all-with_item test (λ (m : Node). (m.id, NodeShape)) node_order g.nodes n.0 h.0 t.0, h.1, h.2)
   added kind.Edge g more d h due =
-      let e = bound (edge_of g d) (λ e. agreeing seen e.id (EdgeShape e.from e.to) (with_edge g e)) more due in
+      let e = bound (edge_of g (element_of kind.Edge d)) (λ e. agreeing seen e.id (EdgeShape e.from e.to) (with_edge g e)) more due in
       let t = tested e.0.id (EdgeShape e.0.from e.0.to) (with_edge g e.0) more e.2 in
       subst Parts t.1 (h.0, all-with_item test (λ (m : Edge). (m.id, EdgeShape m.from m.to)) edge_order g.edges e.0 h.1 t.0, h.2)
   added kind.Path g more d h due =
-      let p = bound (path_of g d) (λ p. agreeing seen p.id (PathShape p.walk) p >>= λ q. Ok (with_path g q)) more due in
+      let p = bound (path_of g (element_of kind.Path d)) (λ p. agreeing seen p.id (PathShape p.walk) p >>= λ q. Ok (with_path g q)) more due in
       let q = bound (agreeing seen p.0.id (PathShape p.0.walk) p.0) (λ q. Ok (with_path g q)) more p.2 in
       let t = tested p.0.id (PathShape p.0.walk) p.0 q.0 q.1 in
       let same : with_path g p.0 ≡ more = ap (with_path g) t.1 ∙ cc (q.2) in

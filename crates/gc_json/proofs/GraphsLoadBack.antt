@@ -16,8 +16,9 @@ use Rattle.gc_ppg.specs.declared.shape.Kind.TheVariants as kind
 use Rattle.serde_json.specs.Data.{Data, item}
 use Rattle.serde_json.specs.Events.{items_len}
 use Rattle.serde_json.specs.View.{items_of}
-use Rattle.gc_json.specs.CanonicalText.{canonical_text, element_count, graph_data, id_data, node_data, edge_data, path_data, step_items}
+use Rattle.gc_json.specs.CanonicalText.{canonical_text, element_count, graph_data, id_data, node_data, edge_data, path_data, step_items, walk_data}
 use Rattle.gc_json.specs.ElementParts.{described, fresh_id, new_id, node_id, end_of}
+use Rattle.gc_json.specs.ElementValues.{element_of}
 use Rattle.gc_json.specs.FileElements.{Seen, node_of, ends_of, edge_of, path_from, path_of, agreeing, add_node_of, add_edge_of, add_path_of}
 use Rattle.gc_json.specs.GraphFiles.{FileLists, add_elements_of, graph_of_lists, graph_of_few, graph_of_data, file_graph, located, most_elements, part_of}
 use Rattle.gc_json.specs.JsonValues.{id_of, value_of}
@@ -70,7 +71,7 @@ distinct_front (x ∷ xs) ys h = (among_front xs ys x h.0, distinct_front xs ys 
 
 -- ---- each element
 
-node_back : (g : PropertyGraph) (n : Node) → IsNode n → is_among (ids_of g) n.id ≡ false → node_of g (node_data n) ≡ Ok n
+node_back : (g : PropertyGraph) (n : Node) → IsNode n → is_among (ids_of g) n.id ≡ false → node_of g (element_of kind.Node (node_data n)) ≡ Ok n
 node_back g n h fresh =
     bound (new_id g n.id) n.id (λ id. described (parts n.id n.labels n.properties) >>= λ about. Ok (record { id = id; labels = about.0; properties = about.1 })) (new_back g n.id h.id fresh)
     ∙ bound (described (parts n.id n.labels n.properties)) (n.labels, n.properties) (λ about. Ok (record { id = n.id; labels = about.0; properties = about.1 })) (described_back n.id n.labels n.properties h.labels h.properties)
@@ -80,7 +81,7 @@ ends_back g e are h =
     bound (end_of g e.from) e.from (λ from. end_of g e.to >>= λ to. Ok (from, to)) (end_back g e.from (node_bound g.nodes e.from are h.source) h.source)
     ∙ bound (end_of g e.to) e.to (λ to. Ok (e.from, to)) (end_back g e.to (node_bound g.nodes e.to are h.target) h.target)
 
-edge_back : (g : PropertyGraph) (e : Edge) → AllByRecursion IsNode g.nodes → IsEdge g.nodes e → is_among (ids_of g) e.id ≡ false → edge_of g (edge_data e) ≡ Ok e
+edge_back : (g : PropertyGraph) (e : Edge) → AllByRecursion IsNode g.nodes → IsEdge g.nodes e → is_among (ids_of g) e.id ≡ false → edge_of g (element_of kind.Edge (edge_data e)) ≡ Ok e
 edge_back g e are h fresh =
     let about = described (parts e.id e.labels e.properties) in
     bound (new_id g e.id) e.id (λ id. ends_of g (e.from, e.to) >>= λ ends. about >>= λ d. Ok (record { id = id; from = ends.0; to = ends.1; labels = d.0; properties = d.1 })) (new_back g e.id h.id fresh)
@@ -104,11 +105,11 @@ walk_back g w are each h =
     ∙ bound (steps_with [] (step_items w.steps)) w.steps (λ ss. Ok (record { start = w.start; steps = ss })) steps in
     bound (walk_of (item (id_data w.start) (step_items w.steps))) w (known_walk g) read ∙ rw h refl
 
-path_back : (g : PropertyGraph) (p : Path) → AllByRecursion IsNode g.nodes → AllByRecursion Bounded g.edges → IsPath g.nodes g.edges p → is_among (ids_of g) p.id ≡ false → path_of g (path_data p) ≡ Ok p
+path_back : (g : PropertyGraph) (p : Path) → AllByRecursion IsNode g.nodes → AllByRecursion Bounded g.edges → IsPath g.nodes g.edges p → is_among (ids_of g) p.id ≡ false → path_of g (element_of kind.Path (path_data p)) ≡ Ok p
 path_back g p are each h fresh =
     let about = described (parts p.id p.labels p.properties) in
     let items = item (id_data p.walk.start) (step_items p.walk.steps) in
-    bound (walk_items (path_data p)) items (path_from g (parts p.id p.labels p.properties)) (rw (numbers_back p.walk.steps) refl)
+    bound (walk_items (Some (walk_data p.walk))) items (path_from g (parts p.id p.labels p.properties)) (rw (numbers_back p.walk.steps) refl)
     ∙ bound (new_id g p.id) p.id (λ id. walk_in g items >>= λ walk. about >>= λ d. Ok (record { id = id; walk = walk; labels = d.0; properties = d.1 })) (new_back g p.id h.id fresh)
     ∙ bound (walk_in g items) p.walk (λ walk. about >>= λ d. Ok (record { id = p.id; walk = walk; labels = d.0; properties = d.1 })) (walk_back g p.walk are each h.walk)
     ∙ bound about (p.labels, p.properties) (λ d. Ok (record { id = p.id; walk = p.walk; labels = d.0; properties = d.1 })) (described_back p.id p.labels p.properties h.labels h.properties)
@@ -127,8 +128,8 @@ nodes_back seen i done (n ∷ rest) up apart each agree =
     let whole : (done ++ n ∷ []) ++ rest ≡ done ++ n ∷ rest = append_assoc done (n ∷ []) rest in
     let ids : ids_of g ≡ node_ids done = append-nil (node_ids done ++ []) ∙ append-nil (node_ids done) in
     let fresh : is_among (ids_of g) n.id ≡ false = ap (λ l. is_among l n.id) ids ∙ fresh_next (λ m. m.id) [] done n rest apart in
-    let one : add_node_of seen g (node_data n) ≡ Ok (graph (done ++ n ∷ []) [] []) =
-    bound (node_of g (node_data n)) n (λ m. agreeing seen m.id NodeShape (with_node g m)) (node_back g n each.0 fresh)
+    let one : add_node_of seen g (element_of kind.Node (node_data n)) ≡ Ok (graph (done ++ n ∷ []) [] []) =
+    bound (node_of g (element_of kind.Node (node_data n))) n (λ m. agreeing seen m.id NodeShape (with_node g m)) (node_back g n each.0 fresh)
     ∙ rw agree.0 (ap (λ ns. Ok (graph ns [] [])) (with_item-last node_order done n rest up)) in
     ap (λ r. located (record { part = part_of kind.Node; index = i }) r >>= λ more. add_elements_of seen kind.Node (i + 1) more ds) one
     ∙ nodes_back seen (i + 1) (done ++ n ∷ []) rest (subst (Ascends node_order) (sym whole) up) (subst (λ ns. AreDistinct (node_ids ns)) (sym whole) apart) each.1 agree.1
@@ -144,8 +145,8 @@ edges_back seen i ns done (e ∷ rest) are up apart each agree =
     let whole : (done ++ e ∷ []) ++ rest ≡ done ++ e ∷ rest = append_assoc done (e ∷ []) rest in
     let ids : ids_of g ≡ node_ids ns ++ edge_ids done = append-nil (node_ids ns ++ edge_ids done) in
     let fresh : is_among (ids_of g) e.id ≡ false = ap (λ l. is_among l e.id) ids ∙ fresh_next (λ d. d.id) (node_ids ns) done e rest apart in
-    let one : add_edge_of seen g (edge_data e) ≡ Ok (graph ns (done ++ e ∷ []) []) =
-    bound (edge_of g (edge_data e)) e (λ d. agreeing seen d.id (EdgeShape d.from d.to) (with_edge g d)) (edge_back g e are each.0 fresh)
+    let one : add_edge_of seen g (element_of kind.Edge (edge_data e)) ≡ Ok (graph ns (done ++ e ∷ []) []) =
+    bound (edge_of g (element_of kind.Edge (edge_data e))) e (λ d. agreeing seen d.id (EdgeShape d.from d.to) (with_edge g d)) (edge_back g e are each.0 fresh)
     ∙ rw agree.0 (ap (λ es. Ok (graph ns es [])) (with_item-last edge_order done e rest up)) in
     ap (λ r. located (record { part = part_of kind.Edge; index = i }) r >>= λ more. add_elements_of seen kind.Edge (i + 1) more ds) one
     ∙ edges_back seen (i + 1) ns (done ++ e ∷ []) rest are (subst (Ascends edge_order) (sym whole) up) (subst (λ es. AreDistinct (node_ids ns ++ edge_ids es)) (sym whole) apart) each.1 agree.1
@@ -160,8 +161,8 @@ paths_back seen i ns es done (p ∷ rest) are bounds up apart each agree =
     let ds = items_of (map path_data rest) in
     let whole : (done ++ p ∷ []) ++ rest ≡ done ++ p ∷ rest = append_assoc done (p ∷ []) rest in
     let fresh : is_among (ids_of g) p.id ≡ false = fresh_next (λ q. q.id) (node_ids ns ++ edge_ids es) done p rest apart in
-    let one : add_path_of seen g (path_data p) ≡ Ok (graph ns es (done ++ p ∷ [])) =
-    bound (path_of g (path_data p)) p (λ q. agreeing seen q.id (PathShape q.walk) q >>= λ q. Ok (with_path g q)) (path_back g p are bounds each.0 fresh)
+    let one : add_path_of seen g (element_of kind.Path (path_data p)) ≡ Ok (graph ns es (done ++ p ∷ [])) =
+    bound (path_of g (element_of kind.Path (path_data p))) p (λ q. agreeing seen q.id (PathShape q.walk) q >>= λ q. Ok (with_path g q)) (path_back g p are bounds each.0 fresh)
     ∙ rw agree.0 (ap (λ ps. Ok (graph ns es ps)) (with_item-last path_order done p rest up)) in
     ap (λ r. located (record { part = part_of kind.Path; index = i }) r >>= λ more. add_elements_of seen kind.Path (i + 1) more ds) one
     ∙ paths_back seen (i + 1) ns es (done ++ p ∷ []) rest are bounds (subst (Ascends path_order) (sym whole) up) (subst (λ ps. AreDistinct ((node_ids ns ++ edge_ids es) ++ path_ids ps)) (sym whole) apart) each.1 agree.1

@@ -1,4 +1,5 @@
 mod ByToken
+mod ElementTurns
 mod EntryTurns
 pub mod FileAgrees
 mod Framing

@@ -9,8 +9,9 @@ use Rattle.json.specs.Token.{Token}
 use Rattle.serde_json.specs.Data.{Data, Items, no_items, item, array}
 use Rattle.serde_json.specs.Events.{items_len}
 use Rattle.serde_json.specs.Find.{as_array}
+use Rattle.gc_json.specs.ElementValues.{ElementValues, element_of}
 use Rattle.gc_json.specs.Entries.{Entries, entries_data, count_of, last_at, nth_at, object_entries}
-use Rattle.gc_json.specs.FileElements.{Seen, add_element_of}
+use Rattle.gc_json.specs.FileElements.{Seen, add_element_of, add_values_of}
 use Rattle.gc_json.specs.Finds.{Finds}
 use Rattle.gc_json.specs.Frames.{place_of, len_at, is_zero, listed, items_or_none}
 use Rattle.gc_json.specs.GraphFiles.{add_elements_of, located, part_of}
@@ -49,6 +50,19 @@ module _ {Y : Type 0} (s : Y → PropertyGraph) where
 module _ (seen : Seen) (kind : Kind) where
   abbrev step : ℕ → PropertyGraph → Data → Result PropertyGraph GraphRefusal
   step i g d = located (record { part = part_of kind; index = i }) (add_element_of seen kind g d)
+
+  one_done : (i : ℕ) (g now : PropertyGraph) (d : Data) (rest : List Token) (r : Result (Unit {0}) (Failure GraphRefusal)) → Gives {Y = Unit {0}} (λ u. now) (step i g d) r → AddsNext (Some (step i g d, rest)) r now rest
+  one_done i g now d rest (Ok u) h = ap (λ x. Some (x, rest)) h
+  one_done i g now d rest (Err (Refused e)) h = h
+  one_done i g now d rest (Err Memory) h = tt
+
+  -- the next element was read, and then added
+  pub one_read : (i : ℕ) (g now : PropertyGraph) (e : ElementValues) (rest : List Token) (o : Option (Data × List Token)) (r : Result (Unit {0}) (Failure GraphRefusal)) → parse_map (element_of kind) o ≡ Some (e, rest)
+      → Gives {Y = Unit {0}} (λ u. now) (located (record { part = part_of kind; index = i }) (add_values_of seen kind g e)) r → AddsNext (parse_map (step i g) o) r now rest
+  one_read i g now e rest o r is h =
+      let read = picked (element_of kind) o e rest is in
+      subst (λ x. AddsNext (parse_map (step i g) x) r now rest) (sym read.1)
+      (one_done i g now read.0 rest r (subst (λ x. Gives {Y = Unit {0}} (λ u. now) (located (record { part = part_of kind; index = i }) (add_values_of seen kind g x)) r) (sym read.2) h))
 
   abbrev all_of : ℕ → PropertyGraph → Option (Items × List Token) → Option (Result PropertyGraph GraphRefusal)
   all_of i g o = option_map (λ p. add_elements_of seen kind i g p.0) o

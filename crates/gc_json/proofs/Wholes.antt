@@ -1,16 +1,12 @@
 -- A whole file, by the entries of its object and by its frame.
-use Rattle.std.proofs.Common.{◌≡◌, ℕ, ◌+◌, ◌-◌, ◌^◌, ◌<◌, ◌&&◌, min, List, [], ◌∷◌, codes, Option, Some, None, option_map, Bool, true, false, Ordering, Less, Equal, Greater, Result, Ok, Err, if◌then◌else◌, nat_cmp, nat_le, is_eq, refl, sym, ap, ◌∙◌, subst, arith}
+use Rattle.std.proofs.Common.{◌≡◌, ℕ, ◌+◌, ◌-◌, ◌^◌, ◌<◌, ◌&&◌, min, List, [], ◌∷◌, codes, Option, Some, None, option_map, Bool, true, false, Result, Ok, Err, if◌then◌else◌, nat_le, refl, sym, ap, ◌∙◌, subst, arith}
 use Rattle.std.proofs.lemmas.Bool.Decides.{nat_tests}
-use Rattle.std.proofs.lemmas.Map.Text.{is_eq-slice_cmp}
-use Rattle.std.proofs.lemmas.Slice.Eq.{bytes_eq-Decides}
-use Rattle.std.specs.Cmp.Lexicographic.{slice_cmp}
-use Rattle.std.specs.Ordering.{match_ordering}
 use Rattle.std.specs.Result.{IsErrAnd}
 use Rattle.std.specs.Str.{is_utf8}
 use Rattle.gc_ppg.specs.declared.shape.Kind.TheVariants as kind
 use Rattle.gc_spec.specs.PropertyGraph.{PropertyGraph, empty_graph}
 use Rattle.json.specs.Lex.{tokens}
-use Rattle.serde_json.specs.Data.{Data, null, boolean, number, string, array, object, Items, Members, no_members, member, put}
+use Rattle.serde_json.specs.Data.{Data, null, boolean, number, string, array, object, Items, Members, no_members, put}
 use Rattle.serde_json.specs.Events.{items_len}
 use Rattle.serde_json.specs.Find.{as_array, as_object}
 use Rattle.gc_json.specs.Entries.{Entries, puts, last_at, object_entries}
@@ -27,6 +23,7 @@ use Rattle.gc_json.specs.declared.fault.Fault.TheVariants as fault
 use Rattle.gc_json.specs.declared.frame.Frame.{Frame}
 use Rattle.gc_json.specs.declared.refusal.GraphRefusal.{GraphRefusal}
 use Rattle.gc_json.specs.declared.refusal.GraphRefusal.TheVariants.{NotJson, WrongShape, TooMany}
+use Rattle.gc_json.proofs.ElementTurns.{has_only-put}
 use Rattle.gc_json.proofs.EntryTurns.{get_member-puts, object_entries_is}
 use Rattle.gc_json.proofs.TokenTurns.{value_is, read_is}
 
@@ -34,15 +31,6 @@ pub no_token : text_frame (object_entries []) ≡ Err NotJson
 no_token = ap (λ o. text_frame (option_map {U = Option Entries} (λ d. None) (whole_text o))) (value_is 127 [])
 
 -- ---- the keys
-
-swap : (a b c : Bool) → a && (b && c) ≡ b && (a && c)
-swap true b c = refl
-swap false true c = refl
-swap false false c = refl
-
-again : (a c : Bool) → a && c ≡ a && (a && c)
-again true c = refl
-again false c = refl
 
 moved : (a b c : Bool) → a && (b && c) ≡ (b && a) && c
 moved true true c = refl
@@ -53,19 +41,6 @@ moved false false c = refl
 and_true : (b : Bool) → (b && true) ≡ b
 and_true true = refl
 and_true false = refl
-
-module _ (keys : List (List ℕ)) where
-  known_at : (k l : List ℕ) (d e : Data) (ms : Members) (o : Ordering) → slice_cmp nat_cmp k l ≡ o → has_only keys (put k d ms) ≡ (is_key_among keys k && has_only keys ms)
-      → has_only keys (match_ordering o (member k d (member l e ms)) (member l d ms) (member l e (put k d ms))) ≡ (is_key_among keys k && (is_key_among keys l && has_only keys ms))
-  known_at k l d e ms Less is later = refl
-  known_at k l d e ms Equal is later =
-      let same : k ≡ l = (bytes_eq-Decides k l).0 (sym (is_eq-slice_cmp k l) ∙ ap is_eq is) in
-      again (is_key_among keys l) (has_only keys ms) ∙ ap (λ x. is_key_among keys x && (is_key_among keys l && has_only keys ms)) (sym same)
-  known_at k l d e ms Greater is later = ap (λ b. is_key_among keys l && b) later ∙ swap (is_key_among keys l) (is_key_among keys k) (has_only keys ms)
-
-  has_only-put : (k : List ℕ) (d : Data) (ms : Members) → has_only keys (put k d ms) ≡ (is_key_among keys k && has_only keys ms)
-  has_only-put k d no_members = refl
-  has_only-put k d (member l e ms) = known_at k l d e ms (slice_cmp nat_cmp k l) refl (has_only-put k d ms)
 
 has_only-puts : (es : Entries) (found : Members) → has_only file_keys (puts found es) ≡ (all_known es && has_only file_keys found)
 has_only-puts [] found = refl

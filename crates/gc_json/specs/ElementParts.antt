@@ -1,10 +1,10 @@
 -- What each element of a graph file has: an identity, maybe labels and properties.
-use Rattle.std.specs.Prelude.{ℕ, List, [], codes, if◌then◌else◌, Result, Ok, Err}
+use Rattle.std.specs.Prelude.{ℕ, List, [], if◌then◌else◌, Result, Ok, Err}
 use Rattle.gc_base.specs.declared.properties.Property.{Property}
 use Rattle.gc_spec.specs.PropertyGraph.{PropertyGraph, ids_of, node_ids, is_among}
-use Rattle.serde_json.specs.Data.{Data, Items, Members}
-use Rattle.serde_json.specs.Find.{as_object}
-use Rattle.gc_json.specs.JsonValues.{is_object_of, number_at, list_at, members_at, id_of}
+use Rattle.serde_json.specs.Data.{Items, Members}
+use Rattle.gc_json.specs.ElementValues.{ElementValues}
+use Rattle.gc_json.specs.JsonValues.{number_in, items_in, members_in, id_of}
 use Rattle.gc_json.specs.LabelLists.{labels_with}
 use Rattle.gc_json.specs.PropertyMembers.{properties_of}
 use Rattle.gc_json.specs.Reading.{◌>>=◌, or_refused}
@@ -17,15 +17,15 @@ pub record ElementParts : Type 0 where
   pub labels : Items
   pub properties : Members
 
--- the parts of an object
-abbrev pub parts_at : Data → Result ElementParts Fault
-parts_at d =
-    or_refused WrongShape (number_at (codes "id") d) >>= λ id. list_at (codes "labels") d >>= λ labels. members_at (codes "properties") d
+-- the parts of the values of an element
+abbrev pub parts_at : ElementValues → Result ElementParts Fault
+parts_at e =
+    or_refused WrongShape (number_in e.id) >>= λ id. items_in e.labels >>= λ labels. members_in e.properties
     >>= λ properties. Ok (record { id = id; labels = labels; properties = properties })
 
--- the parts of an object with no key but these
-abbrev pub parts_of : List (List ℕ) → Data → Result ElementParts Fault
-parts_of keys d = if is_object_of keys (as_object d) then parts_at d else Err WrongShape
+-- the parts of an element with no key but those of its kind
+abbrev pub parts_of : ElementValues → Result ElementParts Fault
+parts_of e = if e.is_known then parts_at e else Err WrongShape
 
 -- an identity that no element has yet
 abbrev pub fresh_id : PropertyGraph → ℕ → Result ℕ Fault

@@ -1,5 +1,5 @@
 -- The elements of a graph file, each added to the graph of those before it.
-use Rattle.std.specs.Prelude.{ℕ, List, [], ◌∷◌, codes, if◌then◌else◌, Result, Ok, Err}
+use Rattle.std.specs.Prelude.{ℕ, List, if◌then◌else◌, Result, Ok, Err}
 use Rattle.gc_spec.specs.Coherence.{ElementShape, NodeShape, EdgeShape, PathShape}
 use Rattle.gc_spec.specs.PropertyGraph.{Node, Edge, Path, PropertyGraph}
 use Rattle.gc_ppg.specs.Built.{with_node, with_edge, with_path}
@@ -8,7 +8,8 @@ use Rattle.gc_ppg.specs.declared.shape.Kind.{Kind}
 use Rattle.gc_ppg.specs.declared.shape.Kind.TheVariants as kind
 use Rattle.serde_json.specs.Data.{Data, Items}
 use Rattle.gc_json.specs.ElementParts.{ElementParts, parts_of, new_id, end_of, described}
-use Rattle.gc_json.specs.JsonValues.{number_at}
+use Rattle.gc_json.specs.ElementValues.{ElementValues, element_of}
+use Rattle.gc_json.specs.JsonValues.{number_in}
 use Rattle.gc_json.specs.WalkItems.{walk_items, walk_in}
 use Rattle.gc_json.specs.Reading.{◌>>=◌, or_refused}
 use Rattle.gc_json.specs.declared.fault.Fault.{Fault}
@@ -18,24 +19,15 @@ use Rattle.gc_json.specs.declared.fault.Fault.TheVariants.{WrongShape, Incoheren
 abbrev pub Seen : Type 0
 Seen = List (List (ℕ × ElementShape))
 
-abbrev pub node_keys : List (List ℕ)
-node_keys = codes "id" ∷ codes "labels" ∷ codes "properties" ∷ []
-
-abbrev pub edge_keys : List (List ℕ)
-edge_keys = codes "from" ∷ codes "id" ∷ codes "labels" ∷ codes "properties" ∷ codes "to" ∷ []
-
-abbrev pub path_keys : List (List ℕ)
-path_keys = codes "id" ∷ codes "labels" ∷ codes "properties" ∷ codes "walk" ∷ []
-
 -- a node of a graph so far: its shape, its identity, what describes it
-abbrev pub node_of : PropertyGraph → Data → Result Node Fault
-node_of g d =
-    parts_of node_keys d >>= λ parts. new_id g parts.id >>= λ id. described parts
+abbrev pub node_of : PropertyGraph → ElementValues → Result Node Fault
+node_of g e =
+    parts_of e >>= λ parts. new_id g parts.id >>= λ id. described parts
     >>= λ about. Ok (record { id = id; labels = about.0; properties = about.1 })
 
 -- the ends of an edge as they stand in the file
-abbrev pub end_numbers : Data → Result (ℕ × ℕ) Fault
-end_numbers d = or_refused WrongShape (number_at (codes "from") d) >>= λ from. or_refused WrongShape (number_at (codes "to") d) >>= λ to. Ok (from, to)
+abbrev pub end_numbers : ElementValues → Result (ℕ × ℕ) Fault
+end_numbers e = or_refused WrongShape (number_in e.from) >>= λ from. or_refused WrongShape (number_in e.to) >>= λ to. Ok (from, to)
 
 -- the nodes at its ends
 abbrev pub ends_of : PropertyGraph → ℕ × ℕ → Result (ℕ × ℕ) Fault
@@ -47,8 +39,8 @@ edge_from g parts numbers =
     new_id g parts.id >>= λ id. ends_of g numbers >>= λ ends. described parts
     >>= λ about. Ok (record { id = id; from = ends.0; to = ends.1; labels = about.0; properties = about.1 })
 
-abbrev pub edge_of : PropertyGraph → Data → Result Edge Fault
-edge_of g d = parts_of edge_keys d >>= λ parts. end_numbers d >>= λ numbers. edge_from g parts numbers
+abbrev pub edge_of : PropertyGraph → ElementValues → Result Edge Fault
+edge_of g e = parts_of e >>= λ parts. end_numbers e >>= λ numbers. edge_from g parts numbers
 
 -- a stored path of a graph so far: its shape, its identity, its walk, what describes it
 abbrev pub path_from : PropertyGraph → ElementParts → Items → Result Path Fault
@@ -56,25 +48,28 @@ path_from g parts items =
     new_id g parts.id >>= λ id. walk_in g items >>= λ walk. described parts
     >>= λ about. Ok (record { id = id; walk = walk; labels = about.0; properties = about.1 })
 
-abbrev pub path_of : PropertyGraph → Data → Result Path Fault
-path_of g d = parts_of path_keys d >>= λ parts. walk_items d >>= λ items. path_from g parts items
+abbrev pub path_of : PropertyGraph → ElementValues → Result Path Fault
+path_of g e = parts_of e >>= λ parts. walk_items e.walk >>= λ items. path_from g parts items
 
 -- an element whose identity has the same shape in the earlier files that have it
 abbrev pub agreeing : {X : Type 0} → Seen → ℕ → ElementShape → X → Result X Fault
 agreeing seen id shape x = if agrees seen id shape then Ok x else Err (Incoherent id)
 
 -- the graph with a new node, edge or path that agrees with the earlier files
-abbrev pub add_node_of : Seen → PropertyGraph → Data → Result PropertyGraph Fault
-add_node_of seen g d = node_of g d >>= λ n. agreeing seen n.id NodeShape (with_node g n)
+abbrev pub add_node_of : Seen → PropertyGraph → ElementValues → Result PropertyGraph Fault
+add_node_of seen g e = node_of g e >>= λ n. agreeing seen n.id NodeShape (with_node g n)
 
-abbrev pub add_edge_of : Seen → PropertyGraph → Data → Result PropertyGraph Fault
-add_edge_of seen g d = edge_of g d >>= λ e. agreeing seen e.id (EdgeShape e.from e.to) (with_edge g e)
+abbrev pub add_edge_of : Seen → PropertyGraph → ElementValues → Result PropertyGraph Fault
+add_edge_of seen g e = edge_of g e >>= λ made. agreeing seen made.id (EdgeShape made.from made.to) (with_edge g made)
 
-abbrev pub add_path_of : Seen → PropertyGraph → Data → Result PropertyGraph Fault
-add_path_of seen g d = path_of g d >>= λ p. agreeing seen p.id (PathShape p.walk) p >>= λ p. Ok (with_path g p)
+abbrev pub add_path_of : Seen → PropertyGraph → ElementValues → Result PropertyGraph Fault
+add_path_of seen g e = path_of g e >>= λ p. agreeing seen p.id (PathShape p.walk) p >>= λ p. Ok (with_path g p)
 
 -- the graph with one more element of a kind
+abbrev pub add_values_of : Seen → Kind → PropertyGraph → ElementValues → Result PropertyGraph Fault
+add_values_of seen kind.Node g e = add_node_of seen g e
+add_values_of seen kind.Edge g e = add_edge_of seen g e
+add_values_of seen kind.Path g e = add_path_of seen g e
+
 abbrev pub add_element_of : Seen → Kind → PropertyGraph → Data → Result PropertyGraph Fault
-add_element_of seen kind.Node g d = add_node_of seen g d
-add_element_of seen kind.Edge g d = add_edge_of seen g d
-add_element_of seen kind.Path g d = add_path_of seen g d
+add_element_of seen kind g d = add_values_of seen kind g (element_of kind d)

@@ -28,9 +28,13 @@ abbrev pub is_object_of : List (List ℕ) → Option Members → Bool
 is_object_of keys None = false
 is_object_of keys (Some ms) = has_only keys ms
 
+-- the whole number that a value is, if there is one
+abbrev pub number_in : Option Data → Option ℕ
+number_in o = option_and_then as_u64 (option_and_then as_number o)
+
 -- the whole number at a key of an object
 abbrev pub number_at : List ℕ → Data → Option ℕ
-number_at key d = option_and_then as_u64 (option_and_then as_number (get key d))
+number_at key d = number_in (get key d)
 
 -- whether a number is there and is 1
 abbrev pub is_one : Option ℕ → Bool
@@ -58,7 +62,3 @@ list_at key d = items_in (get key d)
 abbrev pub members_in : Option Data → Result Members Fault
 members_in None = Ok no_members
 members_in (Some d) = or_refused WrongShape (as_object d)
-
--- the members of the object at a key
-abbrev pub members_at : List ℕ → Data → Result Members Fault
-members_at key d = members_in (get key d)

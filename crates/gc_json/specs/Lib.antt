@@ -1,5 +1,7 @@
 pub mod CanonicalText
 pub mod ElementParts
+pub mod ElementSeen
+pub mod ElementValues
 pub mod Entries
 pub mod FileElements
 pub mod Finds

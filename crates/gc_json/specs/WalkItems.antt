@@ -1,11 +1,11 @@
 -- The walk of a stored path in a graph file.
-use Rattle.std.specs.Prelude.{ℕ, ◌&&◌, Bool, true, List, [], ◌∷◌, ◌++◌, codes, if◌then◌else◌, Option, option_and_then, Result, Ok, Err}
+use Rattle.std.specs.Prelude.{ℕ, ◌&&◌, Bool, true, List, [], ◌∷◌, ◌++◌, if◌then◌else◌, Option, option_and_then, Result, Ok, Err}
 use Rattle.std.specs.Option.{is_some}
 use Rattle.gc_base.specs.declared.walk.Step.{Step}
 use Rattle.gc_base.specs.declared.walk.Walk.{Walk}
 use Rattle.gc_spec.specs.PropertyGraph.{PropertyGraph, is_walk}
 use Rattle.serde_json.specs.Data.{Data, Items, no_items, item}
-use Rattle.serde_json.specs.Find.{get, as_number, as_u64, as_array}
+use Rattle.serde_json.specs.Find.{as_number, as_u64, as_array}
 use Rattle.gc_json.specs.JsonValues.{id_of}
 use Rattle.gc_json.specs.Reading.{◌>>=◌, or_refused}
 use Rattle.gc_json.specs.declared.fault.Fault.{Fault}
@@ -23,9 +23,9 @@ are_numbers (item d ds) = is_some (number_of d) && are_numbers ds
 abbrev pub numbers_of : Items → Result Items Fault
 numbers_of ds = if are_numbers ds then Ok ds else Err WrongShape
 
--- the array of numbers at the key `walk`
-abbrev pub walk_items : Data → Result Items Fault
-walk_items d = or_refused WrongShape (option_and_then as_array (get (codes "walk") d)) >>= numbers_of
+-- the array of numbers that is there
+abbrev pub walk_items : Option Data → Result Items Fault
+walk_items o = or_refused WrongShape (option_and_then as_array o) >>= numbers_of
 
 -- an identity on a walk
 abbrev pub id_on_walk : Data → Result ℕ Fault

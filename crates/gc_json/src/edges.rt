@@ -1,17 +1,17 @@
 ghost use Rattle.std.specs.Prelude.{◌≡◌, true, false, None, IfOk};
 ghost use Rattle.gc_spec.specs.PropertyGraph.{ids_of, node_ids, is_among};
 ghost use Rattle.gc_ppg.specs.Built.{missing_end};
+ghost use Rattle.gc_json.specs.ElementSeen.{element_seen};
 ghost use Rattle.gc_json.specs.FileElements.{end_numbers, ends_of, edge_from, edge_of, add_edge_of};
 ghost use Rattle.gc_json.specs.PartsSeen.{parts_seen};
 ghost use Rattle.gc_json.specs.Reading.{Gives};
-ghost use Rattle.serde_json.specs.View.{view};
 
+use crate::element::Element;
 use crate::fault::{Failure, Fault};
 use crate::parts::{Parts, described, end_of, new_id, parts_of};
-use crate::values::number_at;
+use crate::values::number_in;
 use gc_base::Id;
 use gc_ppg::{Coherence, EdgeInfo, GraphBuilder, Shape};
-use serde_json::Value;
 use std::alloc::Global;
 
 // Adds the edge that a value is.
@@ -19,11 +19,11 @@ pub(crate) fn add_edge(
     alloc: Global,
     builder: &mut GraphBuilder,
     seen: &Coherence,
-    value: &Value,
+    element: &Element,
 ) -> Result<(), Failure<Fault>>
-    ensures { Gives (λ _. builder.new) (add_edge_of seen.now builder.old (view value.now)) result }
+    ensures { Gives (λ _. builder.new) (add_edge_of seen.now builder.old (element_seen element.now)) result }
 {
-    let edge = edge_of(alloc, builder, value)?;
+    let edge = edge_of(alloc, builder, element)?;
     if !seen.agrees(edge.id, &Shape::Edge(edge.from, edge.to)) {
         return Err(Failure::Refused(Fault::Incoherent(edge.id)));
     }
@@ -32,13 +32,17 @@ pub(crate) fn add_edge(
 }
 
 // The edge that a value is in the graph so far.
-fn edge_of(alloc: Global, builder: &GraphBuilder, value: &Value) -> Result<EdgeInfo, Failure<Fault>>
-    ensures exact { Gives (λ edge. edge) (edge_of builder.now (view value.now)) result }
+fn edge_of(
+    alloc: Global,
+    builder: &GraphBuilder,
+    element: &Element,
+) -> Result<EdgeInfo, Failure<Fault>>
+    ensures exact { Gives (λ edge. edge) (edge_of builder.now (element_seen element.now)) result }
     ensures fresh { IfOk result (λ edge. is_among (ids_of builder.now) edge.id ≡ false) }
     ensures ends { IfOk result (λ edge. missing_end builder.now.nodes edge ≡ None) }
 {
-    let parts = parts_of(value, &["from", "id", "labels", "properties", "to"])?;
-    let (from, to) = end_numbers(value)?;
+    let parts = parts_of(element)?;
+    let (from, to) = end_numbers(element)?;
     edge_from(alloc, builder, &parts, from, to)
 }
 
@@ -67,11 +71,11 @@ fn edge_from(
 }
 
 // The numbers of the source and the target.
-fn end_numbers(value: &Value) -> Result<(u64, u64), Failure<Fault>>
-    ensures { Gives (λ numbers. numbers) (end_numbers (view value.now)) result }
+fn end_numbers(element: &Element) -> Result<(u64, u64), Failure<Fault>>
+    ensures { Gives (λ numbers. numbers) (end_numbers (element_seen element.now)) result }
 {
-    let from = number_at(value, "from").ok_or(Fault::WrongShape)?;
-    let to = number_at(value, "to").ok_or(Fault::WrongShape)?;
+    let from = number_in(&element.from).ok_or(Fault::WrongShape)?;
+    let to = number_in(&element.to).ok_or(Fault::WrongShape)?;
     Ok((from, to))
 }
 

@@ -6,6 +6,7 @@
 mod checking;
 mod collected;
 mod edges;
+mod element;
 mod elements;
 mod fault;
 mod finding;

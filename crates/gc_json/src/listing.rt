@@ -2,9 +2,9 @@
 ghost use Rattle.std.specs.Prelude.{◌≡◌, ◌<◌, length, Some, None, OnOk, option_map};
 ghost use Rattle.json.specs.Json.{parse_map};
 ghost use Rattle.json.specs.Lex.{tokens};
-ghost use Rattle.serde_json.specs.View.{view};
+ghost use Rattle.gc_json.specs.ElementSeen.{element_seen};
 ghost use Rattle.gc_json.specs.Entries.{count_of, last_at};
-ghost use Rattle.gc_json.specs.FileElements.{add_element_of};
+ghost use Rattle.gc_json.specs.FileElements.{add_element_of, add_values_of};
 ghost use Rattle.gc_json.specs.Frames.{frame_of, listed};
 ghost use Rattle.gc_json.specs.GraphFiles.{add_elements_of, located, part_of};
 ghost use Rattle.gc_json.specs.ListWalks.{list_key, OfObject, GivesDue, AddsNext};
@@ -12,16 +12,15 @@ ghost use Rattle.gc_json.specs.Reading.{Gives};
 ghost use Rattle.gc_json.specs.Tokens.{value_data, items_data};
 
 use crate::edges::add_edge;
+use crate::element::{Element, read_element};
 use crate::fault::{Failure, Fault};
 use crate::finding::{find, takes_array, takes_object};
 use crate::frame::Frame;
 use crate::nodes::add_node;
 use crate::paths::add_path;
 use crate::refusal::{GraphRefusal, Part, Spot};
-use crate::token_values::read_value;
 use gc_ppg::{Coherence, GraphBuilder, Kind};
 use json::{Reader, Scratch};
-use serde_json::Value;
 use std::alloc::Global;
 
 // Adds the elements of a kind that a text lists, which has this frame.
@@ -106,6 +105,7 @@ fn add_elements(
     seen: &Coherence,
     kind: Kind,
 ) -> Result<(), Failure<GraphRefusal>>
+    requires { 0 < depth }
     ensures { GivesDue (λ _. builder.new)
         (option_map (λ p. add_elements_of seen.now kind 0 builder.old p.0) (items_data depth reader.old)) result }
 {
@@ -127,12 +127,13 @@ fn add_next(
     kind: Kind,
     index: usize,
 ) -> Result<(), Failure<GraphRefusal>>
+    requires { 0 < depth }
     ensures value { AddsNext (parse_map (λ d. located (record { part = part_of kind; index = index }) (add_element_of seen.now kind builder.old d))
         (value_data depth reader.old)) result builder.new reader.new }
     ensures shorter { OnOk result (length reader.new < length reader.old) }
 {
-    let value = read_value(alloc, reader, depth)?;
-    add_located(alloc, builder, seen, kind, index, &value)
+    let element = read_element(alloc, reader, depth, kind)?;
+    add_located(alloc, builder, seen, kind, index, &element)
 }
 
 // Adds the element at an index of its list.
@@ -142,13 +143,13 @@ fn add_located(
     seen: &Coherence,
     kind: Kind,
     index: usize,
-    value: &Value,
+    element: &Element,
 ) -> Result<(), Failure<GraphRefusal>>
     ensures { Gives (λ _. builder.new)
-        (located (record { part = part_of kind; index = index }) (add_element_of seen.now kind builder.old (view value.now))) result }
+        (located (record { part = part_of kind; index = index }) (add_values_of seen.now kind builder.old (element_seen element.now))) result }
 {
     let part = part_of(kind);
-    match add_element(alloc, builder, seen, kind, value) {
+    match add_element(alloc, builder, seen, kind, element) {
         Ok(()) => Ok(()),
         Err(failure) => Err(failure.at(Spot { part, index })),
     }
@@ -160,14 +161,14 @@ fn add_element(
     builder: &mut GraphBuilder,
     seen: &Coherence,
     kind: Kind,
-    value: &Value,
+    element: &Element,
 ) -> Result<(), Failure<Fault>>
-    ensures { Gives (λ _. builder.new) (add_element_of seen.now kind builder.old (view value.now)) result }
+    ensures { Gives (λ _. builder.new) (add_values_of seen.now kind builder.old (element_seen element.now)) result }
 {
     match kind {
-        Kind::Node => add_node(alloc, builder, seen, value),
-        Kind::Edge => add_edge(alloc, builder, seen, value),
-        Kind::Path => add_path(alloc, builder, seen, value),
+        Kind::Node => add_node(alloc, builder, seen, element),
+        Kind::Edge => add_edge(alloc, builder, seen, element),
+        Kind::Path => add_path(alloc, builder, seen, element),
     }
 }
 

@@ -1,13 +1,13 @@
 ghost use Rattle.std.specs.Prelude.{◌≡◌, false, IfOk};
 ghost use Rattle.gc_spec.specs.PropertyGraph.{ids_of, is_among};
+ghost use Rattle.gc_json.specs.ElementSeen.{element_seen};
 ghost use Rattle.gc_json.specs.FileElements.{node_of, add_node_of};
 ghost use Rattle.gc_json.specs.Reading.{Gives};
-ghost use Rattle.serde_json.specs.View.{view};
 
+use crate::element::Element;
 use crate::fault::{Failure, Fault};
 use crate::parts::{described, new_id, parts_of};
 use gc_ppg::{Coherence, GraphBuilder, NodeInfo, Shape};
-use serde_json::Value;
 use std::alloc::Global;
 
 // Adds the node that a value is.
@@ -15,11 +15,11 @@ pub(crate) fn add_node(
     alloc: Global,
     builder: &mut GraphBuilder,
     seen: &Coherence,
-    value: &Value,
+    element: &Element,
 ) -> Result<(), Failure<Fault>>
-    ensures { Gives (λ _. builder.new) (add_node_of seen.now builder.old (view value.now)) result }
+    ensures { Gives (λ _. builder.new) (add_node_of seen.now builder.old (element_seen element.now)) result }
 {
-    let node = node_of(alloc, builder, value)?;
+    let node = node_of(alloc, builder, element)?;
     if !seen.agrees(node.id, &Shape::Node) {
         return Err(Failure::Refused(Fault::Incoherent(node.id)));
     }
@@ -28,11 +28,15 @@ pub(crate) fn add_node(
 }
 
 // The node that a value is in the graph so far.
-fn node_of(alloc: Global, builder: &GraphBuilder, value: &Value) -> Result<NodeInfo, Failure<Fault>>
-    ensures exact { Gives (λ node. node) (node_of builder.now (view value.now)) result }
+fn node_of(
+    alloc: Global,
+    builder: &GraphBuilder,
+    element: &Element,
+) -> Result<NodeInfo, Failure<Fault>>
+    ensures exact { Gives (λ node. node) (node_of builder.now (element_seen element.now)) result }
     ensures fresh { IfOk result (λ node. is_among (ids_of builder.now) node.id ≡ false) }
 {
-    let parts = parts_of(value, &["id", "labels", "properties"])?;
+    let parts = parts_of(element)?;
     let id = new_id(builder, parts.id)?;
     let (labels, properties) = described(alloc, &parts)?;
     Ok(NodeInfo {

@@ -1,17 +1,19 @@
-ghost use Rattle.std.specs.Prelude.{◌≡◌, true, false, map, IfOk};
+ghost use Rattle.std.specs.Prelude.{◌≡◌, true, false, IfOk};
 ghost use Rattle.gc_spec.specs.PropertyGraph.{ids_of, node_ids, is_among};
 ghost use Rattle.gc_json.specs.ElementParts.{parts_of, parts_at, new_id, end_of, described};
-ghost use Rattle.gc_json.specs.JsonValues.{number_at};
+ghost use Rattle.gc_json.specs.ElementSeen.{element_seen};
+ghost use Rattle.gc_json.specs.JsonValues.{number_in};
 ghost use Rattle.gc_json.specs.PartsSeen.{members_seen, parts_seen};
 ghost use Rattle.gc_json.specs.PropertyMembers.{properties_of};
 ghost use Rattle.gc_json.specs.Reading.{Gives, or_refused};
 ghost use Rattle.gc_json.specs.declared.fault.Fault.TheVariants as fault;
-ghost use Rattle.serde_json.specs.View.{view, items_view, members_view};
+ghost use Rattle.serde_json.specs.View.{items_view, members_view};
 
+use crate::element::Element;
 use crate::fault::{Failure, Fault};
 use crate::labels::labels_in;
 use crate::properties::properties_of;
-use crate::values::{is_object_of, list_at, members_at, number_at};
+use crate::values::{list_in, members_in, number_in};
 use gc_base::{Id, LabelSet, Properties};
 use gc_ppg::GraphBuilder;
 use serde_json::{Map, Value};
@@ -25,23 +27,23 @@ pub(crate) struct Parts<'v> {
     pub(crate) properties: Option<&'v Map<String, Value>>,
 }
 
-// The parts of an object with no key but these.
-pub(crate) fn parts_of<'v>(value: &'v Value, keys: &[&str]) -> Result<Parts<'v>, Failure<Fault>>
-    ensures { Gives parts_seen (parts_of (map (λ k. k.now) keys.now) (view value.now)) result }
+// The parts of an element with no key but those of its kind.
+pub(crate) fn parts_of<'v>(element: &'v Element) -> Result<Parts<'v>, Failure<Fault>>
+    ensures { Gives parts_seen (parts_of (element_seen element.now)) result }
 {
-    if !is_object_of(value, keys) {
+    if !element.is_known {
         return Err(Failure::Refused(Fault::WrongShape));
     }
-    parts_at(value)
+    parts_at(element)
 }
 
-// The parts of an object.
-fn parts_at<'v>(value: &'v Value) -> Result<Parts<'v>, Failure<Fault>>
-    ensures { Gives parts_seen (parts_at (view value.now)) result }
+// The parts of an element.
+fn parts_at<'v>(element: &'v Element) -> Result<Parts<'v>, Failure<Fault>>
+    ensures { Gives parts_seen (parts_at (element_seen element.now)) result }
 {
-    let id = number_at(value, "id").ok_or(Fault::WrongShape)?;
-    let labels = list_at(value, "labels")?;
-    let properties = members_at(value, "properties")?;
+    let id = number_in(&element.id).ok_or(Fault::WrongShape)?;
+    let labels = list_in(&element.labels)?;
+    let properties = members_in(&element.properties)?;
     Ok(Parts {
         id,
         labels,

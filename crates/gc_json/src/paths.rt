@@ -1,11 +1,13 @@
 ghost use Rattle.std.specs.Prelude.{◌≡◌, true, false, IfOk};
 ghost use Rattle.gc_spec.specs.Coherence.{PathShape};
 ghost use Rattle.gc_spec.specs.PropertyGraph.{ids_of, is_among, is_walk};
+ghost use Rattle.gc_json.specs.ElementSeen.{element_seen};
 ghost use Rattle.gc_json.specs.FileElements.{path_from, path_of, add_path_of, agreeing};
 ghost use Rattle.gc_json.specs.PartsSeen.{parts_seen};
 ghost use Rattle.gc_json.specs.Reading.{Gives};
-ghost use Rattle.serde_json.specs.View.{view, items_view};
+ghost use Rattle.serde_json.specs.View.{items_view};
 
+use crate::element::Element;
 use crate::fault::{Failure, Fault};
 use crate::parts::{Parts, described, new_id, parts_of};
 use crate::walks::{walk_in, walk_items};
@@ -19,11 +21,11 @@ pub(crate) fn add_path(
     alloc: Global,
     builder: &mut GraphBuilder,
     seen: &Coherence,
-    value: &Value,
+    element: &Element,
 ) -> Result<(), Failure<Fault>>
-    ensures { Gives (λ _. builder.new) (add_path_of seen.now builder.old (view value.now)) result }
+    ensures { Gives (λ _. builder.new) (add_path_of seen.now builder.old (element_seen element.now)) result }
 {
-    let path = path_of(alloc, builder, value)?;
+    let path = path_of(alloc, builder, element)?;
     let path = agreeing(seen, path)?;
     builder.put_path(path)?;
     Ok(())
@@ -63,13 +65,17 @@ fn agreeing_walk(seen: &Coherence, id: Id, walk: Walk) -> Result<Walk, Failure<F
 }
 
 // The stored path that a value is in the graph so far.
-fn path_of(alloc: Global, builder: &GraphBuilder, value: &Value) -> Result<PathInfo, Failure<Fault>>
-    ensures exact { Gives (λ path. path) (path_of builder.now (view value.now)) result }
+fn path_of(
+    alloc: Global,
+    builder: &GraphBuilder,
+    element: &Element,
+) -> Result<PathInfo, Failure<Fault>>
+    ensures exact { Gives (λ path. path) (path_of builder.now (element_seen element.now)) result }
     ensures fresh { IfOk result (λ path. is_among (ids_of builder.now) path.id ≡ false) }
     ensures walk { IfOk result (λ path. is_walk builder.now.nodes builder.now.edges path.walk ≡ true) }
 {
-    let parts = parts_of(value, &["id", "labels", "properties", "walk"])?;
-    let items = walk_items(value)?;
+    let parts = parts_of(element)?;
+    let items = walk_items(element)?;
     path_from(alloc, builder, &parts, items)
 }
 

@@ -1,9 +1,10 @@
-ghost use Rattle.std.specs.Prelude.{◌≡◌, [], true, IfOk};
+ghost use Rattle.std.specs.Prelude.{◌≡◌, [], true, IfOk, option_map};
 ghost use Rattle.gc_spec.specs.PropertyGraph.{is_walk};
 ghost use Rattle.gc_json.specs.Reading.{Gives};
 ghost use Rattle.gc_json.specs.WalkItems.{are_numbers, walk_items, id_on_walk, step_of, steps_with, walk_of, walk_in};
 ghost use Rattle.serde_json.specs.View.{view, items_view};
 
+use crate::element::Element;
 use crate::fault::{Failure, Fault};
 use gc_base::{Id, Step, StepList, Walk};
 use gc_ppg::GraphBuilder;
@@ -11,11 +12,12 @@ use serde_json::Value;
 use std::alloc::Global;
 
 // The array of numbers at the key `walk`.
-pub(crate) fn walk_items<'v>(value: &'v Value) -> Result<&'v [Value], Failure<Fault>>
-    ensures { Gives (λ items. items_view items.now) (walk_items (view value.now)) result }
+pub(crate) fn walk_items(element: &Element) -> Result<&[Value], Failure<Fault>>
+    ensures { Gives (λ items. items_view items.now) (walk_items (option_map view element.now.walk)) result }
 {
-    let items = value
-        .get("walk")
+    let items = element
+        .walk
+        .as_ref()
         .and_then(Value::as_array)
         .ok_or(Fault::WrongShape)?;
     if !are_numbers(items) {
