@@ -4,6 +4,7 @@ mod EntryTurns
 pub mod FileAgrees
 mod Framing
 mod Fuel
+mod Gathered
 mod GraphsLoadBack
 pub mod GraphsReadBack
 mod Growing

@@ -9,10 +9,11 @@ use Rattle.gc_base.specs.Literals.{literal_order, text_order}
 use Rattle.gc_base.specs.declared.literal.Literal.{Literal}
 use Rattle.serde_json.specs.View.{view, items_view}
 use Rattle.serde_json.specs.declared.value.Value.{Value}
-use Rattle.gc_json.specs.LabelLists.{label_of, labels_with}
-use Rattle.gc_json.specs.LiteralValues.{literal_of, values_with}
+use Rattle.gc_json.specs.LabelLists.{label_of}
+use Rattle.gc_json.specs.LiteralValues.{literal_of}
 use Rattle.gc_json.specs.Reading.{◌>>=◌, or_refused}
 use Rattle.gc_json.specs.declared.fault.Fault.TheVariants.{NotLiteral}
+use Rattle.gc_json.proofs.Gathered.{labels_with, values_with}
 use Rattle.gc_json.proofs.SortedSets.{insert_key-with_item, Ascends-insert_key}
 
 next_value : (vs : List Value) (i : ℕ) (v : Value) → i < length vs → v ≡ get_or vs i v → drop i vs ≡ v ∷ drop (i + 1) vs

@@ -16,12 +16,13 @@ use Rattle.serde_json.specs.View.{items_of}
 use Rattle.gc_json.specs.CanonicalText.{id_data, literal_data, values_data, property_members, step_items}
 use Rattle.gc_json.specs.ElementParts.{ElementParts, described}
 use Rattle.gc_json.specs.JsonValues.{id_of, largest_id}
-use Rattle.gc_json.specs.LabelLists.{label_of, labels_with}
-use Rattle.gc_json.specs.LiteralValues.{literal_of, values_with, values_of}
-use Rattle.gc_json.specs.PropertyMembers.{are_names, name_of, property_of, properties_with, properties_of}
+use Rattle.gc_json.specs.LabelLists.{label_of, labels_of}
+use Rattle.gc_json.specs.LiteralValues.{literal_of, values_of}
+use Rattle.gc_json.specs.PropertyMembers.{are_names, name_of, property_of, properties_of}
 use Rattle.gc_json.specs.Reading.{◌>>=◌, or_refused}
 use Rattle.gc_json.specs.WalkItems.{are_numbers, id_on_walk, step_of, steps_with}
 use Rattle.gc_json.specs.declared.fault.Fault.TheVariants.{NotLiteral, BadWalk}
+use Rattle.gc_json.proofs.Gathered.{labels_with, labels_gathered, values_with, values_gathered, properties_with, properties_gathered}
 use Rattle.gc_json.proofs.SortedSets.{with_item-last}
 
 -- what is read is passed on
@@ -72,7 +73,7 @@ names_back (p ∷ ps) h = rw h.0.name (names_back ps h.1)
 property_back : (p : Property) → IsProperty p → property_of p.name (values_data p.values) ≡ Ok p
 property_back p h =
     let named : name_of p.name ≡ Ok p.name = rw h.name refl in
-    let read : values_of (values_data p.values) ≡ Ok p.values = values_back [] p.values h.values.ascends h.values.literals in
+    let read : values_of (values_data p.values) ≡ Ok p.values = sym (values_gathered [] (items_of (map literal_data p.values)) refl) ∙ values_back [] p.values h.values.ascends h.values.literals in
     bound (name_of p.name) p.name (λ name. values_of (values_data p.values) >>= λ values. Ok (record { name = name; values = values })) named
     ∙ bound (values_of (values_data p.values)) p.values (λ values. Ok (record { name = p.name; values = values })) read
 
@@ -90,7 +91,7 @@ properties_on done (p ∷ rest) up each =
     ∙ ap Ok whole
 
 properties_back : (ps : List Property) → AreProperties ps → properties_of (property_members ps) ≡ Ok ps
-properties_back ps h = rw (names_back ps h.each) (properties_on [] ps h.ascend h.each)
+properties_back ps h = rw (names_back ps h.each) (sym (properties_gathered [] (property_members ps) refl) ∙ properties_on [] ps h.ascend h.each)
 
 -- ---- both
 
@@ -99,7 +100,7 @@ parts id labels ps = record { id = id; labels = items_of (map string labels); pr
 
 pub described_back : (id : ℕ) (labels : List (List ℕ)) (ps : List Property) → IsLabelSet labels → AreProperties ps → described (parts id labels ps) ≡ Ok (labels, ps)
 described_back id labels ps l p =
-    bound (labels_with [] (items_of (map string labels))) labels (λ ls. properties_of (property_members ps) >>= λ qs. Ok (ls, qs)) (labels_back [] labels l.ascends l.words)
+    bound (labels_of (items_of (map string labels))) labels (λ ls. properties_of (property_members ps) >>= λ qs. Ok (ls, qs)) (sym (labels_gathered [] (items_of (map string labels)) refl) ∙ labels_back [] labels l.ascends l.words)
     ∙ bound (properties_of (property_members ps)) ps (λ qs. Ok (labels, qs)) (properties_back ps p)
 
 -- ---- walks

@@ -1,11 +1,11 @@
 -- What each element of a graph file has: an identity, maybe labels and properties.
-use Rattle.std.specs.Prelude.{ℕ, List, [], if◌then◌else◌, Result, Ok, Err}
+use Rattle.std.specs.Prelude.{ℕ, List, if◌then◌else◌, Result, Ok, Err}
 use Rattle.gc_base.specs.declared.properties.Property.{Property}
 use Rattle.gc_spec.specs.PropertyGraph.{PropertyGraph, ids_of, node_ids, is_among}
 use Rattle.serde_json.specs.Data.{Items, Members}
 use Rattle.gc_json.specs.ElementValues.{ElementValues}
 use Rattle.gc_json.specs.JsonValues.{number_in, items_in, members_in, id_of}
-use Rattle.gc_json.specs.LabelLists.{labels_with}
+use Rattle.gc_json.specs.LabelLists.{labels_of}
 use Rattle.gc_json.specs.PropertyMembers.{properties_of}
 use Rattle.gc_json.specs.Reading.{◌>>=◌, or_refused}
 use Rattle.gc_json.specs.declared.fault.Fault.{Fault}
@@ -45,4 +45,4 @@ end_of g n = or_refused NoEnd (id_of n) >>= node_id g
 
 -- the labels and the properties: all labels are tested before all properties
 abbrev pub described : ElementParts → Result (List (List ℕ) × List Property) Fault
-described parts = labels_with [] parts.labels >>= λ labels. properties_of parts.properties >>= λ properties. Ok (labels, properties)
+described parts = labels_of parts.labels >>= λ labels. properties_of parts.properties >>= λ properties. Ok (labels, properties)

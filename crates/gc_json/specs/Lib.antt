@@ -6,6 +6,7 @@ pub mod Entries
 pub mod FileElements
 pub mod Finds
 pub mod Frames
+pub mod Gathering
 pub mod GraphFiles
 pub mod JsonValues
 pub mod LabelLists

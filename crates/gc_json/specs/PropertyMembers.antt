@@ -1,9 +1,10 @@
 -- The properties of an element in a graph file.
-use Rattle.std.specs.Prelude.{ℕ, ◌&&◌, Bool, true, List, [], if◌then◌else◌, Result, Ok, Err}
+use Rattle.std.specs.Prelude.{ℕ, ◌&&◌, Bool, true, List, [], map, if◌then◌else◌, Result, Ok, Err}
 use Rattle.gc_base.specs.PropertyLists.{put}
 use Rattle.gc_base.specs.Words.{is_word}
 use Rattle.gc_base.specs.declared.properties.Property.{Property}
 use Rattle.serde_json.specs.Data.{Data, Members, no_members, member}
+use Rattle.gc_json.specs.Gathering.{all_or_first, pairs_of, with_each}
 use Rattle.gc_json.specs.LiteralValues.{values_of}
 use Rattle.gc_json.specs.Reading.{◌>>=◌}
 use Rattle.gc_json.specs.declared.fault.Fault.{Fault}
@@ -22,11 +23,10 @@ name_of key = if is_word key then Ok key else Err BadName
 abbrev pub property_of : List ℕ → Data → Result Property Fault
 property_of key d = name_of key >>= λ name. values_of d >>= λ values. Ok (record { name = name; values = values })
 
--- the properties with those of an object: a name without values is left out
-abbrev pub properties_with : List Property → Members → Result (List Property) Fault
-properties_with ps no_members = Ok ps
-properties_with ps (member key d ms) = property_of key d >>= λ p. properties_with (put ps p) ms
+-- a property for each member that has values
+abbrev pub properties_among : Members → Result (List Property) Fault
+properties_among ms = all_or_first (map (λ m. property_of m.0 m.1) (pairs_of ms)) >>= λ ps. Ok (with_each put [] ps)
 
 -- the properties of an object; all names are tested before all values
 abbrev pub properties_of : Members → Result (List Property) Fault
-properties_of ms = if are_names ms then properties_with [] ms else Err BadName
+properties_of ms = if are_names ms then properties_among ms else Err BadName

@@ -1,5 +1,4 @@
-ghost use Rattle.std.specs.Prelude.{[]};
-ghost use Rattle.gc_json.specs.LabelLists.{label_of, labels_with};
+ghost use Rattle.gc_json.specs.LabelLists.{label_of, labels_of};
 ghost use Rattle.gc_json.specs.Reading.{Gives};
 ghost use Rattle.serde_json.specs.View.{view, items_view};
 
@@ -12,7 +11,7 @@ use std::collections::BTreeSet;
 
 // The labels of a list.
 pub(crate) fn labels_in(alloc: Global, items: &[Value]) -> Result<LabelSet, Failure<Fault>>
-    ensures { Gives (λ labels. labels) (labels_with [] (items_view items.now)) result }
+    ensures { Gives (λ labels. labels) (labels_of (items_view items.now)) result }
 {
     if items.len() > FEW {
         many_labels(alloc, items)
@@ -23,7 +22,7 @@ pub(crate) fn labels_in(alloc: Global, items: &[Value]) -> Result<LabelSet, Fail
 
 // The labels of a long list, which go through a tree.
 fn many_labels(alloc: Global, items: &[Value]) -> Result<LabelSet, Failure<Fault>>
-    ensures { Gives (λ labels. labels) (labels_with [] (items_view items.now)) result }
+    ensures { Gives (λ labels. labels) (labels_of (items_view items.now)) result }
 {
     let mut tree = BTreeSet::new(alloc);
     for item in items {
@@ -35,7 +34,7 @@ fn many_labels(alloc: Global, items: &[Value]) -> Result<LabelSet, Failure<Fault
 
 // The labels of a short list.
 fn few_labels(alloc: Global, items: &[Value]) -> Result<LabelSet, Failure<Fault>>
-    ensures { Gives (λ labels. labels) (labels_with [] (items_view items.now)) result }
+    ensures { Gives (λ labels. labels) (labels_of (items_view items.now)) result }
 {
     let mut labels = LabelSet::empty(alloc);
     for item in items {

@@ -1,8 +1,8 @@
-ghost use Rattle.std.specs.Prelude.{[]};
-ghost use Rattle.gc_json.specs.LiteralValues.{literal_of, values_with, values_of};
+ghost use Rattle.std.specs.Prelude.{◌∷◌, []};
+ghost use Rattle.gc_json.specs.Gathering.{data_of};
+ghost use Rattle.gc_json.specs.LiteralValues.{literal_of, values_among, values_of};
 ghost use Rattle.gc_json.specs.Reading.{Gives, or_refused};
 ghost use Rattle.gc_json.specs.declared.fault.Fault.TheVariants as fault;
-ghost use Rattle.serde_json.specs.Data.{no_items, item};
 ghost use Rattle.serde_json.specs.View.{view, items_view};
 
 use crate::collected::{FEW, set_of};
@@ -24,7 +24,7 @@ pub(crate) fn values_of(alloc: Global, value: &Value) -> Result<ValueSet, Failur
 
 // A literal alone.
 fn one_value(alloc: Global, value: &Value) -> Result<ValueSet, Failure<Fault>>
-    ensures { Gives (λ values. values) (values_with [] (item (view value.now) no_items)) result }
+    ensures { Gives (λ values. values) (values_among (view value.now ∷ [])) result }
 {
     let mut values = ValueSet::empty(alloc);
     values.insert(literal_of(alloc, value)?)?;
@@ -33,7 +33,7 @@ fn one_value(alloc: Global, value: &Value) -> Result<ValueSet, Failure<Fault>>
 
 // The literals of an array.
 fn values_in(alloc: Global, items: &[Value]) -> Result<ValueSet, Failure<Fault>>
-    ensures { Gives (λ values. values) (values_with [] (items_view items.now)) result }
+    ensures { Gives (λ values. values) (values_among (data_of (items_view items.now))) result }
 {
     if items.len() > FEW {
         many_values(alloc, items)
@@ -44,7 +44,7 @@ fn values_in(alloc: Global, items: &[Value]) -> Result<ValueSet, Failure<Fault>>
 
 // The literals of a long array, which go through a tree.
 fn many_values(alloc: Global, items: &[Value]) -> Result<ValueSet, Failure<Fault>>
-    ensures { Gives (λ values. values) (values_with [] (items_view items.now)) result }
+    ensures { Gives (λ values. values) (values_among (data_of (items_view items.now))) result }
 {
     let mut tree = BTreeSet::new(alloc);
     for item in items {
@@ -56,7 +56,7 @@ fn many_values(alloc: Global, items: &[Value]) -> Result<ValueSet, Failure<Fault
 
 // The literals of a short array.
 fn few_values(alloc: Global, items: &[Value]) -> Result<ValueSet, Failure<Fault>>
-    ensures { Gives (λ values. values) (values_with [] (items_view items.now)) result }
+    ensures { Gives (λ values. values) (values_among (data_of (items_view items.now))) result }
 {
     let mut values = ValueSet::empty(alloc);
     for item in items {

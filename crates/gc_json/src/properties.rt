@@ -1,5 +1,5 @@
-ghost use Rattle.std.specs.Prelude.{◌≡◌, []};
-ghost use Rattle.gc_json.specs.PropertyMembers.{are_names, property_of, properties_with, properties_of};
+ghost use Rattle.std.specs.Prelude.{◌≡◌};
+ghost use Rattle.gc_json.specs.PropertyMembers.{are_names, property_of, properties_among, properties_of};
 ghost use Rattle.gc_json.specs.Reading.{Gives};
 ghost use Rattle.serde_json.specs.View.{view, members_view};
 
@@ -31,7 +31,7 @@ fn are_names(members: &Map<String, Value>) -> bool
 
 // A property for each member that has values.
 fn properties_in(alloc: Global, members: &Map<String, Value>) -> Result<Properties, Failure<Fault>>
-    ensures { Gives (λ properties. properties) (properties_with [] (members_view members.now.entries)) result }
+    ensures { Gives (λ properties. properties) (properties_among (members_view members.now.entries)) result }
 {
     let mut properties = Properties::empty(alloc);
     for (key, value) in members.iter() {

@@ -1,6 +1,13 @@
-use Rattle.std.proofs.Common.{◌∙◌, arith}
+use Rattle.std.proofs.Common.{◌∙◌, sym, subst, arith}
+use Rattle.gc_base.specs.Ascending.{Ascends}
+use Rattle.gc_base.specs.Literals.{literal_order}
+use Rattle.serde_json.specs.View.{items_view}
+use Rattle.gc_json.proofs.Gathered.{values_gathered}
 use Rattle.gc_json.proofs.ManyItems.{more_values}
 use Rattle.gc_json.proofs.literals.many_values.Goals as goal
+
+pub loop-item-init : goal.loop-item-init
+loop-item-init c = (subst (Ascends literal_order) (sym c.new-tree.ensures.empty) tt, values_gathered c.new-tree.result.keys (items_view c.args.items.now) c.new-tree.ensures.empty)
 
 pub loop-item-preserved : goal.loop-item-preserved
 loop-item-preserved c =
