@@ -1,5 +1,5 @@
 -- The graph of a file agrees with what identities stand for in the graphs of earlier files.
-use Rattle.std.proofs.Common.{◌≡◌, ℕ, ◌+◌, Bool, true, false, cond, ◌&&◌, List, [], ◌∷◌, ◌++◌, map, Result, Ok, Err, refl, ap, ◌∙◌, subst}
+use Rattle.std.proofs.Common.{◌≡◌, ℕ, ◌+◌, Bool, true, false, cond, ◌&&◌, List, [], ◌∷◌, ◌++◌, map, Result, Ok, Err, refl, subst}
 use Rattle.std.specs.declared.cmp.Ordering.{Ordering}
 use Rattle.std.specs.Ordering.{is_lt, is_gt}
 use Rattle.std.specs.List.{filter, list_all}
@@ -96,11 +96,9 @@ module _ (seen : Seen) where
       let t = tested e.0.id (EdgeShape e.0.from e.0.to) (with_edge g e.0) more e.2 in
       subst Parts t.1 (h.0, all-with_item test (λ (m : Edge). (m.id, EdgeShape m.from m.to)) edge_order g.edges e.0 h.1 t.0, h.2)
   added kind.Path g more d h due =
-      let p = bound (path_of g (element_of kind.Path d)) (λ p. agreeing seen p.id (PathShape p.walk) p >>= λ q. Ok (with_path g q)) more due in
-      let q = bound (agreeing seen p.0.id (PathShape p.0.walk) p.0) (λ q. Ok (with_path g q)) more p.2 in
-      let t = tested p.0.id (PathShape p.0.walk) p.0 q.0 q.1 in
-      let same : with_path g p.0 ≡ more = ap (with_path g) t.1 ∙ cc (q.2) in
-      subst Parts same (h.0, h.1, all-with_item test (λ (m : Path). (m.id, PathShape m.walk)) path_order g.paths p.0 h.2 t.0)
+      let p = bound (path_of g (element_of kind.Path d)) (λ p. agreeing seen p.id (PathShape p.walk) (with_path g p)) more due in
+      let t = tested p.0.id (PathShape p.0.walk) (with_path g p.0) more p.2 in
+      subst Parts t.1 (h.0, h.1, all-with_item test (λ (m : Path). (m.id, PathShape m.walk)) path_order g.paths p.0 h.2 t.0)
 
   unlocated : {A : Type 0} (spot : Spot) (r : Result A Fault) (x : A) → ◌≡◌ {A = Result A GraphRefusal} (located spot r) (Ok x) → ◌≡◌ {A = Result A Fault} r (Ok x)
   unlocated spot (Ok y) x h = cc

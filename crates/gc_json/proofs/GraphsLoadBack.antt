@@ -24,9 +24,10 @@ use Rattle.gc_json.specs.GraphFiles.{FileLists, add_elements_of, graph_of_lists,
 use Rattle.gc_json.specs.JsonValues.{id_of, value_of}
 use Rattle.gc_json.specs.LoadedAgain.{AgreesWith, NodeAgrees, EdgeAgrees, PathAgrees}
 use Rattle.gc_json.specs.Reading.{◌>>=◌, or_refused}
-use Rattle.gc_json.specs.WalkItems.{id_on_walk, known_walk, steps_with, walk_in, walk_items, walk_of}
+use Rattle.gc_json.specs.WalkItems.{id_on_walk, known_walk, walk_in, walk_items, walk_of, steps_among}
 use Rattle.gc_json.specs.declared.fault.Fault.TheVariants.{IdTooLarge, NoEnd}
 use Rattle.gc_json.specs.declared.refusal.GraphRefusal.TheVariants.{NotJson}
+use Rattle.gc_json.proofs.GatheredSteps.{steps_gathered, walk_gathered}
 use Rattle.gc_json.proofs.GraphsReadBack.{Bounded, edges_bounded, joined_bound, node_bound, read-canonical_text}
 use Rattle.gc_json.proofs.PartsLoadBack.{StepIsBounded, bound, described_back, id_back, numbers_back, on_walk_back, parts, steps_back}
 use Rattle.gc_json.proofs.SortedSets.{with_item-last}
@@ -101,8 +102,9 @@ walk_back g w are each h =
     let start = on_walk_back w.start (node_bound g.nodes w.start are p.0) in
     let steps = steps_back [] w.steps (steps_bounded g.edges w.start w.steps each p.1) in
     let read : walk_of (item (id_data w.start) (step_items w.steps)) ≡ Ok w =
-    bound (id_on_walk (id_data w.start)) w.start (λ s. steps_with [] (step_items w.steps) >>= λ ss. Ok (record { start = s; steps = ss })) start
-    ∙ bound (steps_with [] (step_items w.steps)) w.steps (λ ss. Ok (record { start = w.start; steps = ss })) steps in
+    sym (walk_gathered (id_data w.start) (step_items w.steps))
+    ∙ bound (id_on_walk (id_data w.start)) w.start (λ s. steps_among (step_items w.steps) >>= λ ss. Ok (record { start = s; steps = ss })) start
+    ∙ bound (steps_among (step_items w.steps)) w.steps (λ ss. Ok (record { start = w.start; steps = ss })) (sym (steps_gathered [] (step_items w.steps) refl) ∙ steps) in
     bound (walk_of (item (id_data w.start) (step_items w.steps))) w (known_walk g) read ∙ rw h refl
 
 path_back : (g : PropertyGraph) (p : Path) → AllByRecursion IsNode g.nodes → AllByRecursion Bounded g.edges → IsPath g.nodes g.edges p → is_among (ids_of g) p.id ≡ false → path_of g (element_of kind.Path (path_data p)) ≡ Ok p
@@ -162,7 +164,7 @@ paths_back seen i ns es done (p ∷ rest) are bounds up apart each agree =
     let whole : (done ++ p ∷ []) ++ rest ≡ done ++ p ∷ rest = append_assoc done (p ∷ []) rest in
     let fresh : is_among (ids_of g) p.id ≡ false = fresh_next (λ q. q.id) (node_ids ns ++ edge_ids es) done p rest apart in
     let one : add_path_of seen g (element_of kind.Path (path_data p)) ≡ Ok (graph ns es (done ++ p ∷ [])) =
-    bound (path_of g (element_of kind.Path (path_data p))) p (λ q. agreeing seen q.id (PathShape q.walk) q >>= λ q. Ok (with_path g q)) (path_back g p are bounds each.0 fresh)
+    bound (path_of g (element_of kind.Path (path_data p))) p (λ q. agreeing seen q.id (PathShape q.walk) (with_path g q)) (path_back g p are bounds each.0 fresh)
     ∙ rw agree.0 (ap (λ ps. Ok (graph ns es ps)) (with_item-last path_order done p rest up)) in
     ap (λ r. located (record { part = part_of kind.Path; index = i }) r >>= λ more. add_elements_of seen kind.Path (i + 1) more ds) one
     ∙ paths_back seen (i + 1) ns es (done ++ p ∷ []) rest are bounds (subst (Ascends path_order) (sym whole) up) (subst (λ ps. AreDistinct ((node_ids ns ++ edge_ids es) ++ path_ids ps)) (sym whole) apart) each.1 agree.1

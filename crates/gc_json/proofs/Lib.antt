@@ -5,6 +5,7 @@ pub mod FileAgrees
 mod Framing
 mod Fuel
 mod Gathered
+mod GatheredSteps
 mod GraphsLoadBack
 pub mod GraphsReadBack
 mod Growing

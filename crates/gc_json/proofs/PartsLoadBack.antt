@@ -20,9 +20,10 @@ use Rattle.gc_json.specs.LabelLists.{label_of, labels_of}
 use Rattle.gc_json.specs.LiteralValues.{literal_of, values_of}
 use Rattle.gc_json.specs.PropertyMembers.{are_names, name_of, property_of, properties_of}
 use Rattle.gc_json.specs.Reading.{◌>>=◌, or_refused}
-use Rattle.gc_json.specs.WalkItems.{are_numbers, id_on_walk, step_of, steps_with}
+use Rattle.gc_json.specs.WalkItems.{are_numbers, id_on_walk, step_of}
 use Rattle.gc_json.specs.declared.fault.Fault.TheVariants.{NotLiteral, BadWalk}
 use Rattle.gc_json.proofs.Gathered.{labels_with, labels_gathered, values_with, values_gathered, properties_with, properties_gathered}
+use Rattle.gc_json.proofs.GatheredSteps.{steps_with}
 use Rattle.gc_json.proofs.SortedSets.{with_item-last}
 
 -- what is read is passed on

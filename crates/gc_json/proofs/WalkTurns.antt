@@ -5,8 +5,9 @@ use Rattle.gc_base.specs.declared.walk.Step.{Step}
 use Rattle.serde_json.specs.View.{view, items_view}
 use Rattle.serde_json.specs.declared.value.Value.{Value}
 use Rattle.gc_json.specs.Reading.{◌>>=◌}
-use Rattle.gc_json.specs.WalkItems.{step_of, steps_with}
+use Rattle.gc_json.specs.WalkItems.{step_of}
 use Rattle.gc_json.specs.declared.fault.Fault.TheVariants.{BadWalk}
+use Rattle.gc_json.proofs.GatheredSteps.{steps_with}
 
 two_more : (vs : List Value) (k : ℕ) (a b : Value) → k + 1 < length vs → a ≡ get_or vs k a → b ≡ get_or vs (k + 1) b → drop k vs ≡ a ∷ b ∷ drop (k + 1 + 1) vs
 two_more vs k a b within first second =

@@ -63,7 +63,7 @@ abbrev pub add_edge_of : Seen → PropertyGraph → ElementValues → Result Pro
 add_edge_of seen g e = edge_of g e >>= λ made. agreeing seen made.id (EdgeShape made.from made.to) (with_edge g made)
 
 abbrev pub add_path_of : Seen → PropertyGraph → ElementValues → Result PropertyGraph Fault
-add_path_of seen g e = path_of g e >>= λ p. agreeing seen p.id (PathShape p.walk) p >>= λ p. Ok (with_path g p)
+add_path_of seen g e = path_of g e >>= λ p. agreeing seen p.id (PathShape p.walk) (with_path g p)
 
 -- the graph with one more element of a kind
 abbrev pub add_values_of : Seen → Kind → PropertyGraph → ElementValues → Result PropertyGraph Fault

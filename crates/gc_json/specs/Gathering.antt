@@ -1,5 +1,5 @@
 -- What the items of a list give together.
-use Rattle.std.specs.Prelude.{ℕ, List, [], ◌∷◌, Result, Ok, Err}
+use Rattle.std.specs.Prelude.{ℕ, List, [], ◌∷◌, Result, Ok}
 use Rattle.std.specs.declared.cmp.Ordering.{Ordering}
 use Rattle.gc_base.specs.Ascending.{with_item}
 use Rattle.serde_json.specs.Data.{Data, Items, no_items, item, Members, no_members, member}

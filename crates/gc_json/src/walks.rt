@@ -1,7 +1,7 @@
-ghost use Rattle.std.specs.Prelude.{◌≡◌, [], true, IfOk, option_map};
+ghost use Rattle.std.specs.Prelude.{◌≡◌, true, IfOk, option_map};
 ghost use Rattle.gc_spec.specs.PropertyGraph.{is_walk};
 ghost use Rattle.gc_json.specs.Reading.{Gives};
-ghost use Rattle.gc_json.specs.WalkItems.{are_numbers, walk_items, id_on_walk, step_of, steps_with, walk_of, walk_in};
+ghost use Rattle.gc_json.specs.WalkItems.{are_numbers, walk_items, id_on_walk, step_of, steps_among, walk_of, walk_in};
 ghost use Rattle.serde_json.specs.View.{view, items_view};
 
 use crate::element::Element;
@@ -70,7 +70,7 @@ fn walk_of(alloc: Global, items: &[Value]) -> Result<Walk, Failure<Fault>>
 
 // The steps of edges and nodes in turn.
 fn steps_of(alloc: Global, items: &[Value]) -> Result<StepList, Failure<Fault>>
-    ensures { Gives (λ steps. steps) (steps_with [] (items_view items.now)) result }
+    ensures { Gives (λ steps. steps) (steps_among (items_view items.now)) result }
 {
     let mut steps = StepList::new(alloc);
     for i in 0..items.len() / 2 {

@@ -1,4 +1,4 @@
-use Rattle.std.proofs.Common.{◌≡◌, [], ap, ◌∙◌, rules}
+use Rattle.std.proofs.Common.{◌≡◌, ap, ◌∙◌, rules}
 use Rattle.serde_json.specs.View.{members_view}
 use Rattle.gc_json.proofs.Gathered.{properties_with, properties_gathered}
 use Rattle.gc_json.proofs.properties.properties_in.Goals as goal

@@ -1,6 +1,11 @@
 use Rattle.std.proofs.Common.{◌*◌, sym, ◌∙◌, arith}
+use Rattle.serde_json.specs.View.{items_view}
+use Rattle.gc_json.proofs.GatheredSteps.{steps_gathered}
 use Rattle.gc_json.proofs.WalkTurns.{turned, edge_alone}
 use Rattle.gc_json.proofs.walks.steps_of.Goals as goal
+
+pub loop-i-init : goal.loop-i-init
+loop-i-init c = steps_gathered c.new-steps.result (items_view c.args.items.now) c.new-steps.ensures
 
 pub loop-i-preserved : goal.loop-i-preserved
 loop-i-preserved c =
