@@ -56,7 +56,8 @@ impl Element {
         kind: Kind,
         key: &str,
     ) -> Result<(), Unread>
-        ensures value { Takes (λ _. element_seen self.new) (parse_map (values_after kind (element_seen self.old) key.now) (value_data depth reader.old)) result reader.new }
+        ensures value { Takes (λ _. element_seen self.new)
+            (parse_map (values_after kind (element_seen self.old) key.now) (value_data depth reader.old)) result reader.new }
         ensures shorter { OnOk result (length reader.new < length reader.old) }
     {
         let value = read_value(alloc, reader, depth)?;
