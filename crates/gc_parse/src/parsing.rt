@@ -4,6 +4,7 @@ ghost use Rattle.gc_regx.specs.Views.{regex_tree};
 ghost use Rattle.gc_grammar.specs.Queries.{SpellsFile, SpellsRegex};
 ghost use Rattle.gc_parse.specs.Parses.{IsDueParse, IsDueWhole, IsParse, IsWhole, parsed, read_whole};
 ghost use Rattle.gc_parse_readers.specs.QueryReaders.{file_reading};
+ghost use Rattle.gc_parse_source.specs.Sources.{names_among};
 
 use crate::depth::depth_fault;
 use crate::files::file_statements;
@@ -59,6 +60,7 @@ pub fn parse(alloc: Global, tokens: &Tokens) -> Result<File, ParseRefusal>
     ensures right { IsParse SpellsFile file_trees tokens.now.tokens result }
     ensures due { IsDueParse file_trees (parsed tokens.now.tokens) result }
     ensures places { IfOk result (λ file. file.places ++ file.end ∷ [] ≡ tokens.now.places) }
+    ensures names { IfOk result (λ file. file.names ≡ names_among tokens.now.tokens) }
 {
     if let Some(number) = depth_fault(tokens) {
         return Err(ParseRefusal::TooDeep(number));
@@ -71,6 +73,7 @@ fn whole_file(alloc: Global, tokens: &Tokens) -> Result<File, Refusal>
     ensures right { IsWhole SpellsFile file_trees tokens.now.tokens result }
     ensures due { IsDueWhole file_trees (read_whole (file_reading (length tokens.now.tokens + 1) tokens.now.tokens)) result }
     ensures places { IfOk result (λ file. file.places ++ file.end ∷ [] ≡ tokens.now.places) }
+    ensures names { IfOk result (λ file. file.names ≡ names_among tokens.now.tokens) }
 {
     let source = Source::of(alloc, tokens)?;
     let statements = statements_of(&source)?;

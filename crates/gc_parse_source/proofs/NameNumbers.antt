@@ -1,5 +1,5 @@
 -- The numbers of the names among tokens.
-use Rattle.std.proofs.Common.{◌≡◌, refl, sym, ap, ◌∙◌, subst, ℕ, zero, suc, ◌+◌, Bool, true, false, if◌then◌else◌, List, [], ◌∷◌, ◌++◌, length, take, drop, Some, None, slice_get, get_or}
+use Rattle.std.proofs.Common.{◌≡◌, refl, sym, ap, ◌∙◌, subst, ℕ, zero, suc, ◌+◌, Bool, true, false, if◌then◌else◌, List, [], ◌∷◌, ◌++◌, length, take, drop, Some, None, slice_get, get_or, ◌<◌, fold, add-one, drop-cons}
 use Rattle.std.proofs.lemmas.Bool.{false≢true, eqb-true}
 use Rattle.gc_base.specs.Words.{is_reserved}
 use Rattle.gc_base.specs.declared.place.Sym.{Sym}
@@ -9,7 +9,7 @@ use Rattle.gc_expr.specs.Views.{Names, name_of, found_name}
 use Rattle.gc_parse_readers.specs.Kinds.{mark_kind, name_kind, word_kind, begins}
 use Rattle.gc_parse_readers.specs.Readers.{means_name, first_means, behind}
 use Rattle.gc_parse_readers.proofs.TokenKinds.{mark_below, one_kind, reserved_kind, behind_place}
-use Rattle.gc_parse_source.specs.Sources.{IsNumberOf, AreNumbersOf, Extends}
+use Rattle.gc_parse_source.specs.Sources.{IsNumberOf, AreNumbersOf, Extends, with_token}
 use Rattle.gc_parse_source.proofs.Prefixes.{take_snoc}
 use native.Mathlib.Omega.{arith}
 
@@ -79,3 +79,10 @@ pub name_at : (names : Names) (ts : List Token) (syms : List Sym) (at : ℕ) (fo
     → (first_means means_name (drop at ts) ≡ Some (name_of names found)) × (at + 1 ≡ at + 1) × (behind (drop at ts) ≡ drop (at + 1) ts)
 name_at names ts syms at found all h is =
     (name_number names ts syms at found all h ∙ ap (λ s. Some (name_of names s)) (sym is), refl, behind_place at ts)
+
+-- the names of the tokens from a place on are that of the one there and those of the ones behind it
+pub next_names : (before after : Names) (tokens : List Token) (i : ℕ) (t : Token) → i < length tokens → t ≡ get_or tokens i t → after ≡ with_token before t
+    → fold with_token after (drop (i + 1) tokens) ≡ fold with_token before (drop i tokens)
+next_names before after tokens i t h at same =
+    let rest : drop i tokens ≡ t ∷ drop (i + 1) tokens = rw add-one (drop-cons tokens i t h ∙ ap (λ y. y ∷ drop (suc i) tokens) (sym at)) in
+    ap (λ names. fold with_token names (drop (i + 1) tokens)) same ∙ ap (fold with_token before) (sym rest)

@@ -1,5 +1,6 @@
 -- What the parser reads from: the tokens of a file, and the number of each name among them.
-use Rattle.std.specs.Prelude.{◌≡◌, false, List, [], ◌∷◌, ◌++◌, Some, slice_get}
+use Rattle.std.specs.Prelude.{◌≡◌, false, List, [], ◌∷◌, ◌++◌, Some, fold, slice_get, if◌then◌else◌}
+use Rattle.gc_ast.specs.Names.{with_name}
 use Rattle.gc_base.specs.declared.place.Sym.{Sym}
 use Rattle.gc_base.specs.Words.{is_reserved}
 use Rattle.gc_lex.specs.declared.token.Token.{Token}
@@ -26,3 +27,12 @@ AreNumbersOf names (token ∷ ts) (sym ∷ syms) = IsNumberOf names token sym ×
 -- a table with names behind those of another
 abbrev pub Extends : Names → Names → Type 0
 Extends names others = (more : Names) × (others ≡ names ++ more)
+
+-- a table with the name that a token is; a reserved word is none
+abbrev pub with_token : Names → Token → Names
+with_token names (Word a) = if is_reserved a then names else with_name names a
+with_token names token = names
+
+-- the names among tokens, by first occurrence
+abbrev pub names_among : List Token → Names
+names_among tokens = fold with_token [] tokens

@@ -39,11 +39,13 @@ impl<'a> Source<'a> {
     ghost use Rattle.gc_ast.specs.PatternViews.{named_if};
     ghost use Rattle.gc_parse_readers.specs.PatternReaders.{read_name_if};
     ghost use Rattle.gc_parse_source.specs.Results.{Gives, Takes, Passes};
+    ghost use Rattle.gc_parse_source.specs.Sources.{names_among};
     ghost use Rattle.gc_parse_readers.specs.Points.{bare};
 
     /// The tokens with the numbers of their names.
     pub fn of(alloc: Global, tokens: &'a Tokens) -> Result<Source<'a>, Memory>
-        ensures { IfOk result (λ source. source.tokens ≡ tokens.now.tokens) }
+        ensures tokens { IfOk result (λ source. source.tokens ≡ tokens.now.tokens) }
+        ensures names { IfOk result (λ source. source.names ≡ names_among tokens.now.tokens) }
     {
         let count = tokens.len();
         let tokens = tokens.as_slice();

@@ -8,13 +8,13 @@ use Rattle.gc_parse.proofs.parsing.whole_file.Goals as goal
 pub returns-clause-right : goal.returns-clause-right
 returns-clause-right c =
     same_whole c.args.tokens.now.tokens c.in_ok-source.source.tokens (map (statement_tree c.in_ok-source.source.names) c.in_ok-statements.statements.items) (file_trees c.of-2.result)
-    c.in_ok-source.ensures
+    c.in_ok-source.ensures.tokens
     (sym (c.of-2.ensures.trees ∙ ap (λ names. map (statement_tree names) c.in_ok-statements.statements.items) c.into_names.ensures))
     c.in_ok-statements.ensures.right
 
 pub returns-clause-due : goal.returns-clause-due
 returns-clause-due c =
-    ap (λ ts. read_whole (file_reading (length ts + 1) ts)) (sym c.in_ok-source.ensures) ∙ c.in_ok-statements.ensures.due
+    ap (λ ts. read_whole (file_reading (length ts + 1) ts)) (sym c.in_ok-source.ensures.tokens) ∙ c.in_ok-statements.ensures.due
     ∙ ap Ok (sym (c.of-2.ensures.trees ∙ ap (λ names. map (statement_tree names) c.in_ok-statements.statements.items) c.into_names.ensures))
 
 pub returns-clause-places : goal.returns-clause-places
