@@ -1,5 +1,8 @@
+pub mod Items
+pub mod Layers
+pub mod JoinLaws
 pub mod Own
+pub mod PlanLaw
 pub mod Restrictions
 pub mod Schemas
 pub mod TextOrder
-pub mod Totals

@@ -1,4 +1,11 @@
+pub mod Blocks
+pub mod FirstWalks
 pub mod Instances
+pub mod Joins
 pub mod Matches
+pub mod Networks
+pub mod Plans
+pub mod RegexCodes
+pub mod Tables
 pub mod Trees
 pub mod Views
