@@ -1,5 +1,5 @@
--- Expressions of several parts over other numbers.
-use Rattle.std.proofs.Common.{◌≡◌, Some, ap, sym, ◌∙◌, map, rules, Vec, Box, Global}
+-- Expressions of several parts, whose EXISTS have other numbers.
+use Rattle.std.proofs.Common.{◌≡◌, ℕ, List, [], ◌∷◌, Some, refl, ap, sym, ◌∙◌, map, rules, Vec, Box, Global}
 use Rattle.gc_base.specs.declared.place.Sym.{Sym}
 use Rattle.gc_expr.specs.declared.expr.Expr.{Expr}
 use Rattle.gc_expr.specs.declared.expr.Fold.{Fold}
@@ -8,10 +8,10 @@ use Rattle.gc_expr.specs.declared.expr.ProductPart.{ProductPart}
 use Rattle.gc_expr.specs.declared.expr.ExprNode.{the_lemmas}
 use Rattle.gc_expr.specs.declared.expr.ExprNode.TheViews.{And, Or, Sum, Product, Aggregate}
 use Rattle.gc_expr.specs.Trees as tree
-use Rattle.gc_expr.specs.Trees.{row, maybe, renamed}
+use Rattle.gc_expr.specs.Trees.{Kind, TreeOf, row, more, maybe, renamed}
 use Rattle.gc_expr.specs.Views.{numbered_expr, numbered_node, numbered_sum_part, numbered_product_part}
 use Rattle.gc_expr.proofs.Lists.{numbered_aggregate}
-use Rattle.gc_expr.proofs.Renaming.{renamed_row}
+use Rattle.gc_lower.specs.Conditions.{counted_from, moved}
 
 and_node : (parts : Vec Expr Global) → numbered_node (And parts) ≡ tree.And (row (map numbered_expr parts.items))
 unfolding numbered_node numbered_expr
@@ -31,39 +31,45 @@ product_node : (first : Box Expr Global) (rest : Vec ProductPart Global)
 unfolding numbered_node numbered_expr numbered_product_part
 product_node first rest = search (rules, the_lemmas)
 
-module _ (f : Sym → Sym) where
-  pub same_and : (made parts : Vec Expr Global) → map numbered_expr made.items ≡ map (λ e. renamed f (numbered_expr e)) parts.items
-      → numbered_node (And made) ≡ renamed f (numbered_node (And parts))
-  unfolding renamed
+counted_row : {A : Type 0} {k : Kind} (v : Sym → Sym) (before : ℕ) (g : A → TreeOf Sym k) (xs : List A)
+    → moved v before (row (map g xs)) ≡ row (map (λ x. moved v before (g x)) xs)
+unfolding counted_from renamed
+counted_row v before g [] = refl
+counted_row v before g (x ∷ xs) = ap (more (moved v before (g x))) (counted_row v before g xs)
+
+module _ (v : Sym → Sym) (before : ℕ) where
+  pub same_and : (made parts : Vec Expr Global) → map numbered_expr made.items ≡ map (λ e. moved v before (numbered_expr e)) parts.items
+      → numbered_node (And made) ≡ moved v before (numbered_node (And parts))
+  unfolding counted_from renamed
   same_and made parts h =
       and_node made ∙ ap (λ trees. tree.And (row trees)) h
-      ∙ ap tree.And (sym (renamed_row f numbered_expr parts.items)) ∙ ap (renamed f) (sym (and_node parts))
+      ∙ ap tree.And (sym (counted_row v before numbered_expr parts.items)) ∙ ap (moved v before) (sym (and_node parts))
 
-  pub same_or : (made parts : Vec Expr Global) → map numbered_expr made.items ≡ map (λ e. renamed f (numbered_expr e)) parts.items
-      → numbered_node (Or made) ≡ renamed f (numbered_node (Or parts))
-  unfolding renamed
+  pub same_or : (made parts : Vec Expr Global) → map numbered_expr made.items ≡ map (λ e. moved v before (numbered_expr e)) parts.items
+      → numbered_node (Or made) ≡ moved v before (numbered_node (Or parts))
+  unfolding counted_from renamed
   same_or made parts h =
       or_node made ∙ ap (λ trees. tree.Or (row trees)) h
-      ∙ ap tree.Or (sym (renamed_row f numbered_expr parts.items)) ∙ ap (renamed f) (sym (or_node parts))
+      ∙ ap tree.Or (sym (counted_row v before numbered_expr parts.items)) ∙ ap (moved v before) (sym (or_node parts))
 
-  pub same_sum : (first other : Box Expr Global) → numbered_expr first.value ≡ renamed f (numbered_expr other.value)
-      → (made parts : Vec SumPart Global) → map numbered_sum_part made.items ≡ map (λ p. renamed f (numbered_sum_part p)) parts.items
-      → numbered_node (Sum first made) ≡ renamed f (numbered_node (Sum other parts))
-  unfolding renamed
+  pub same_sum : (first other : Box Expr Global) → numbered_expr first.value ≡ moved v before (numbered_expr other.value)
+      → (made parts : Vec SumPart Global) → map numbered_sum_part made.items ≡ map (λ p. moved v before (numbered_sum_part p)) parts.items
+      → numbered_node (Sum first made) ≡ moved v before (numbered_node (Sum other parts))
+  unfolding counted_from renamed
   same_sum first other e made parts h =
       sum_node first made ∙ (λ i. tree.Sum (e i) (row (h i)))
-      ∙ ap (tree.Sum (renamed f (numbered_expr other.value))) (sym (renamed_row f numbered_sum_part parts.items)) ∙ ap (renamed f) (sym (sum_node other parts))
+      ∙ ap (tree.Sum (moved v before (numbered_expr other.value))) (sym (counted_row v before numbered_sum_part parts.items)) ∙ ap (moved v before) (sym (sum_node other parts))
 
-  pub same_product : (first other : Box Expr Global) → numbered_expr first.value ≡ renamed f (numbered_expr other.value)
-      → (made parts : Vec ProductPart Global) → map numbered_product_part made.items ≡ map (λ p. renamed f (numbered_product_part p)) parts.items
-      → numbered_node (Product first made) ≡ renamed f (numbered_node (Product other parts))
-  unfolding renamed
+  pub same_product : (first other : Box Expr Global) → numbered_expr first.value ≡ moved v before (numbered_expr other.value)
+      → (made parts : Vec ProductPart Global) → map numbered_product_part made.items ≡ map (λ p. moved v before (numbered_product_part p)) parts.items
+      → numbered_node (Product first made) ≡ moved v before (numbered_node (Product other parts))
+  unfolding counted_from renamed
   same_product first other e made parts h =
       product_node first made ∙ (λ i. tree.Product (e i) (row (h i)))
-      ∙ ap (tree.Product (renamed f (numbered_expr other.value))) (sym (renamed_row f numbered_product_part parts.items)) ∙ ap (renamed f) (sym (product_node other parts))
+      ∙ ap (tree.Product (moved v before (numbered_expr other.value))) (sym (counted_row v before numbered_product_part parts.items)) ∙ ap (moved v before) (sym (product_node other parts))
 
-  pub same_aggregate : (fold : Fold) (made operand : Box Expr Global) → numbered_expr made.value ≡ renamed f (numbered_expr operand.value)
-      → numbered_node (Aggregate fold (Some made)) ≡ renamed f (numbered_node (Aggregate fold (Some operand)))
-  unfolding renamed
+  pub same_aggregate : (fold : Fold) (made operand : Box Expr Global) → numbered_expr made.value ≡ moved v before (numbered_expr operand.value)
+      → numbered_node (Aggregate fold (Some made)) ≡ moved v before (numbered_node (Aggregate fold (Some operand)))
+  unfolding counted_from renamed
   same_aggregate fold made operand e =
-      numbered_aggregate fold made ∙ ap (λ of. tree.Aggregate fold (maybe (Some of))) e ∙ ap (renamed f) (sym (numbered_aggregate fold operand))
+      numbered_aggregate fold made ∙ ap (λ of. tree.Aggregate fold (maybe (Some of))) e ∙ ap (moved v before) (sym (numbered_aggregate fold operand))

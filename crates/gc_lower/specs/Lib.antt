@@ -1,5 +1,7 @@
-pub mod Asked
+pub mod Blocks
 pub mod Chains
-pub mod Meaning
-pub mod Outcomes
-pub mod Variables
+pub mod Conditions
+pub mod Lowerings
+pub mod Namings
+pub mod Reads
+pub mod Scopes

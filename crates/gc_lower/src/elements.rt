@@ -1,8 +1,9 @@
 ghost use Rattle.std.specs.Prelude.{◌≡◌, ◌++◌, ◌∷◌, [], map, OnOk};
-ghost use Rattle.gc_expr.specs.Views.{name_of};
 ghost use Rattle.gc_ast.specs.PatternViews.{element_by, property_use_by};
+ghost use Rattle.gc_expr.specs.Views.{name_of};
 ghost use Rattle.gc_ast.specs.Trees.{row};
 ghost use Rattle.gc_lower.specs.Chains.{edge_atoms, node_atoms, property_atom, property_atoms};
+ghost use Rattle.gc_lower.specs.Namings.{names_of, scope};
 
 use crate::naming::Naming;
 use gc_alg::{Atom, AtomList, AtomWhat};
@@ -25,9 +26,9 @@ pub(crate) fn add_node(
     graph: u32,
     element: &Element,
 ) -> Result<(), Memory>
-    ensures { OnOk result (atoms.new.items ≡ atoms.old.items ++ node_atoms naming.now.scope graph (element_by (name_of naming.now.names) element.now)) }
+    ensures { OnOk result (atoms.new.items ≡ atoms.old.items ++ node_atoms (scope naming.now) graph (element_by (name_of (names_of naming.now)) element.now)) }
 {
-    let x = naming.variable(element)?;
+    let x = naming.variable(element);
     let labels = element.labels.copy()?;
     atoms.push(Atom {
         graph,
@@ -45,9 +46,9 @@ pub(crate) fn add_edge(
     element: &Element,
 ) -> Result<(), Memory>
     ensures { OnOk result (atoms.new.items
-        ≡ atoms.old.items ++ edge_atoms naming.now.scope link.graph link.left link.right way (element_by (name_of naming.now.names) element.now)) }
+        ≡ atoms.old.items ++ edge_atoms (scope naming.now) link.graph link.left link.right way (element_by (name_of (names_of naming.now)) element.now)) }
 {
-    let e = naming.variable(element)?;
+    let e = naming.variable(element);
     let labels = element.labels.copy()?;
     atoms.push(Atom {
         graph: link.graph,
@@ -79,7 +80,7 @@ fn add_properties(
     properties: &PropertyUseList,
 ) -> Result<(), Memory>
     ensures { OnOk result (atoms.new.items
-        ≡ atoms.old.items ++ property_atoms naming.now.scope graph x kind (row (map (property_use_by (name_of naming.now.names)) properties.now))) }
+        ≡ atoms.old.items ++ property_atoms (scope naming.now) graph x kind (row (map (property_use_by (name_of (names_of naming.now))) properties.now))) }
 {
     for asked in properties.as_slice() {
         add_property(atoms, naming, graph, x, kind, asked)?;
@@ -96,11 +97,10 @@ fn add_property(
     kind: Kind,
     asked: &PropertyUse,
 ) -> Result<(), Memory>
-    ensures { OnOk result (atoms.new.items
-        ≡ atoms.old.items ++ property_atom naming.now.scope graph x kind (property_use_by (name_of naming.now.names) asked.now) ∷ []) }
+    ensures { OnOk result (atoms.new.items ≡ atoms.old.items ++ property_atom (scope naming.now) graph x kind (property_use_by (name_of (names_of naming.now)) asked.now) ∷ []) }
 {
     let name = asked.property.copy()?;
-    let value = naming.number(asked.value.sym)?;
+    let value = naming.named(asked.value.sym);
     atoms.push(Atom {
         graph,
         what: AtomWhat::Property {

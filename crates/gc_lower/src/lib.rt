@@ -1,17 +1,21 @@
-//! What a block of a query file asks for: its variables, its patterns as atoms and the parts of its
-//! condition as conjuncts, in the order of the text. Others rely on `variables`, `variable` and `lower`. This crate
-//! knows of no rows and runs nothing.
+//! What a block of a checked query file asks for: its patterns as atoms, the parts of its conditions as
+//! conjuncts with their EXISTS queries, and its tree in the order of the text. Others rely on
+//! `lower_match`, `lower_view` and `variable`. This crate knows of no rows and runs nothing.
 #![tactic(auto)]
 
+mod blocks;
 mod chains;
 mod conjuncts;
+mod counting;
 mod elements;
 mod lowering;
+mod mentioning;
 mod naming;
-mod numbering;
+mod occurring;
+mod paths;
 mod reads;
 mod renumbering;
-mod stop;
+mod variables;
 
-pub use lowering::lower;
-pub use numbering::{variable, variables};
+pub use lowering::{LoweredBlock, lower_match, lower_view};
+pub use variables::variable;

@@ -1,55 +1,59 @@
-ghost use Rattle.std.specs.Prelude.{IfOk};
-ghost use Rattle.gc_ast.specs.QueryViews.{block_tree};
-ghost use Rattle.gc_lower.specs.Asked.{IsLowering, asked};
-ghost use Rattle.gc_lower.specs.Chains.{Scope};
-ghost use Rattle.gc_lower.specs.Outcomes.{Lowers};
+ghost use Rattle.std.specs.Prelude.{◌≡◌, [], map, IfOk};
+ghost use Rattle.std.specs.Option.{option_map};
+ghost use Rattle.gc_ast.specs.PatternViews.{pattern_tree};
+ghost use Rattle.gc_ast.specs.QueryViews.{basic_tree, formula_tree};
+ghost use Rattle.gc_ast.specs.Trees.{maybe, rows};
+ghost use Rattle.gc_alg.specs.Views.{block_tree};
+ghost use Rattle.gc_lower.specs.Blocks.{block_of, view_block};
+ghost use Rattle.gc_lower.specs.Lowerings.{IsLowered};
+ghost use Rattle.gc_lower.specs.Namings.{scope_of};
 
-use crate::chains::add_chains;
-use crate::conjuncts::conjuncts_of_where;
+use crate::blocks;
 use crate::naming::Naming;
-use crate::reads::reads_of;
-use crate::stop::Stop;
-use gc_alg::{Block, Part};
-use gc_ast::{MatchBlock, NameTable};
-use gc_base::{Memory, NameList};
+use gc_alg::{Block, Rel, text_tree};
+use gc_ast::{Basic, ChainList, Formula};
+use gc_base::Memory;
+use gc_sorts::Checked;
 use std::alloc::Global;
 
-/// What a block asks for, by the names of its file, its variables and the names of the graphs, each by
-/// number. There is `None` exactly where it has what is not lowered yet, a path that is to be found or
-/// EXISTS, or a link without a node beside it. Numbers that pass their type are want of memory, and so
-/// is a name that its file lacks.
-pub fn lower(
-    alloc: Global,
-    names: &NameTable,
-    variables: &NameTable,
-    graphs: &NameList,
-    block: &MatchBlock,
-) -> Result<Option<Block>, Memory>
-    ensures { let s : Scope = record { variables = variables.now; graphs = graphs.now } in
-        IfOk result (IsLowering (asked s (block_tree names.now block.now))) }
-{
-    let naming = Naming {
-        names,
-        variables,
-        graphs,
-    };
-    match lowered(alloc, &naming, block) {
-        Ok(lowered) => Ok(Some(lowered)),
-        Err(Stop::Unlowered) => Ok(None),
-        Err(Stop::Memory) => Err(Memory),
-    }
+/// A block, and its tree in the order of the text.
+#[derive(Drop)]
+pub struct LoweredBlock {
+    pub block: Block,
+    pub tree: Rel,
 }
 
-// The block of one part that asks for the same.
-#[tactic(auto, using(crate::proofs::TreeParts::block_parts))]
-fn lowered(alloc: Global, naming: &Naming<'_>, block: &MatchBlock) -> Result<Block, Stop>
-    ensures { Lowers (asked naming.now.scope (block_tree naming.now.names block.now)) result }
+/// The block of a MATCH with its OPTIONAL blocks, and its tree. Patterns without ON stand on the first graph.
+/// A number past its type is want of memory, and so is a view's name that the file lacks.
+pub fn lower_match(alloc: Global, checked: &Checked, basic: &Basic) -> Result<LoweredBlock, Memory>
+    ensures { IfOk result (IsLowered (block_of (scope_of checked.now 0) [] (basic_tree checked.now.file.names basic.now))) }
 {
-    let mut atoms = Vec::new(alloc);
-    add_chains(&mut atoms, naming, &block.patterns)?;
-    let conjuncts = conjuncts_of_where(alloc, naming, &block.filter)?;
-    let reads = reads_of(alloc, &atoms)?;
-    let mut parts = Vec::new(alloc);
-    parts.push(Part { atoms, conjuncts })?;
-    Ok(Block { parts, reads })
+    let naming = Naming { checked, on: 0 };
+    let block = blocks::block_of(basic, alloc, &naming, &[])?;
+    with_tree(alloc, block)
+}
+
+/// The block of a view, of these chains and this WHERE, on the graph of a number, and its tree. It refuses as
+/// `lower_match`.
+pub fn lower_view(
+    alloc: Global,
+    checked: &Checked,
+    chains: &ChainList,
+    filter: &Option<Formula>,
+    on: u32,
+) -> Result<LoweredBlock, Memory>
+    ensures { IfOk result (IsLowered (view_block (scope_of checked.now on)
+        (rows (map (λ c. map (pattern_tree checked.now.file.names) c.parts) chains.now)) (maybe (option_map (formula_tree checked.now.file.names) filter.now)))) }
+{
+    let naming = Naming { checked, on };
+    let block = blocks::view_block(alloc, &naming, chains, filter)?;
+    with_tree(alloc, block)
+}
+
+// A block with its tree in the order of the text.
+fn with_tree(alloc: Global, block: Block) -> Result<LoweredBlock, Memory>
+    ensures { IfOk result (IsLowered (block_tree block)) }
+{
+    let tree = text_tree(alloc, &block)?;
+    Ok(LoweredBlock { block, tree })
 }

@@ -1,132 +1,113 @@
-ghost use Rattle.std.specs.Prelude.{◌≡◌, length, IfOk};
-ghost use Rattle.std.specs.Option.{unwrap_or};
-ghost use Rattle.gc_ast.specs.Names.{number_in};
-ghost use Rattle.gc_expr.specs.Views.{name_of};
+ghost use Rattle.std.specs.Prelude.{◌≡◌, IfOk};
 
-use crate::numbering::variable;
-use gc_ast::{Element, NameTable, Pattern};
-use gc_base::{Memory, Name, NameAt, NameList, Sym};
-use std::marker::Model;
+use crate::variables::variable;
+use gc_alg::ViewUse;
+use gc_ast::{Element, Pattern};
+use gc_base::{Duplicate, Memory, NameAt, Sym, ViewNo};
+use gc_sorts::Checked;
 
-/// What names stand for: the names of a file by number, and the variables and the names of the graphs,
-/// each by number.
+/// What the names and the tokens of a checked file stand for, for chains of which those without ON stand
+/// on the graph of a number.
 #[derive(Drop)]
 pub(crate) struct Naming<'a> {
-    pub names: &'a NameTable,
-    pub variables: &'a NameTable,
-    pub graphs: &'a NameList,
+    pub checked: &'a Checked,
+    pub on: u32,
 }
 
-impl<'a> Model for Naming<'a> {
-    ghost use Rattle.gc_lower.specs.Meaning.{Meaning};
-
-    ghost Value = { Meaning };
-
-    ghost view = { λ n. record { names = n.names.now; scope = record { variables = n.variables.now; graphs = n.graphs.now } } };
-}
-
+#[tactic(auto, unfolding(crate::specs::Namings::scope_in))]
 impl Naming<'_> {
-    ghost use Rattle.std.specs.Prelude.{map};
-    ghost use Rattle.gc_ast.specs.PatternViews.{element_by, named, named_if, pattern_tree};
+    ghost use Rattle.std.specs.Prelude.{map, unwrap_or};
+    ghost use Rattle.gc_ast.specs.PatternViews.{element_by, named_by, named_if_by, pattern_tree};
+    ghost use Rattle.gc_expr.specs.Views.{name_of};
     ghost use Rattle.gc_ast.specs.Trees.{row};
-    ghost use Rattle.gc_lower.specs.Chains.{graph_of, graph_named, hidden, variable, variable_of, node_variable, next_variable};
-    ghost use Rattle.gc_lower.specs.Meaning.{variable_in};
+    ghost use Rattle.gc_lower.specs.Chains.{element_variable, next_variable, node_variable};
+    ghost use Rattle.gc_lower.specs.Namings.{names_of, scope, variable_in};
+    ghost use Rattle.gc_lower.specs.Scopes.{graph_of, number_at, view_use};
 
     /// The number of the graph that a chain stands on.
-    pub(crate) fn graph_of(&self, on: &Option<NameAt>) -> Result<u32, Memory>
-        ensures { IfOk result (λ graph. graph ≡ graph_of self.now.scope (named_if self.now.names on.now)) }
+    pub(crate) fn graph_of(&self, on: &Option<NameAt>) -> u32
+        ensures { result ≡ graph_of (scope self.now) (named_if_by (name_of (names_of self.now)) on.now) }
     {
         match on {
-            None => Ok(0),
-            Some(name) => self.graph_named(*name),
+            None => self.on,
+            Some(name) => self.checked.graph_at(name.token).unwrap_or(0),
         }
     }
 
-    // The number of the graph of a name; one that is no graph's has the number behind the last.
-    fn graph_named(&self, name: NameAt) -> Result<u32, Memory>
-        ensures { IfOk result (λ graph. graph ≡ graph_named self.now.scope (named self.now.names name)) }
+    // The hidden variable of the unnamed element at a token.
+    fn hidden(&self, token: u32) -> Sym
+        ensures { result.0 ≡ number_at (scope self.now).hidden_at token }
     {
-        let number = place_of(self.graphs, bytes_of(self.names, name.sym));
-        match u32::try_from(number) {
-            Ok(number) => Ok(number),
-            Err(_) => Err(Memory),
+        match self.checked.hidden_at(token) {
+            None => Sym(0),
+            Some(sym) => sym,
         }
     }
 
-    /// The variable of a number of the file; a number that the file lacks is want of memory.
-    pub(crate) fn number(&self, sym: Sym) -> Result<Sym, Memory>
-        ensures { IfOk result (λ x. x ≡ variable_in self.now sym) }
+    // The view whose name stands at a token.
+    fn view(&self, token: u32) -> ViewNo
+        ensures { result.0 ≡ number_at (scope self.now).view_at token }
     {
-        variable(self.names, self.variables, sym)
+        match self.checked.view_at(token) {
+            None => ViewNo(0),
+            Some(view) => view,
+        }
     }
 
-    // The hidden variable of a pattern without a name.
-    fn hidden(&self, token: u32) -> Result<Sym, Memory>
-        ensures { IfOk result (λ x. x ≡ hidden self.now.scope token) }
+    /// The view that a name in an expression means. A name that the file lacks is want of memory.
+    pub(crate) fn view_use(&self, name: NameAt) -> Result<ViewUse, Memory>
+        ensures { IfOk result (λ used. used ≡ view_use (scope self.now) (named_by (name_of (names_of self.now)) name)) }
     {
-        let Some(behind) = self.variables.len().checked_add(1) else {
-            return Err(Memory);
-        };
-        match behind.checked_add(token) {
+        let view = self.view(name.token);
+        match self
+            .checked
+            .file()
+            .names
+            .as_slice()
+            .get(name.sym.0 as usize)
+        {
             None => Err(Memory),
-            Some(number) => Ok(Sym(number)),
+            Some(found) => Ok(ViewUse {
+                name: found.copy()?,
+                view,
+            }),
         }
     }
 
-    /// The variable of an element: that of its name, or a hidden one.
-    pub(crate) fn variable(&self, element: &Element) -> Result<Sym, Memory>
-        ensures { IfOk result (λ x. x ≡ variable self.now.scope (element_by (name_of self.now.names) element.now)) }
+    /// The variable of a name of the file, by its number.
+    pub(crate) fn named(&self, sym: Sym) -> Sym
+        ensures { result ≡ variable_in self.now sym }
+    {
+        variable(&self.checked.file().names, sym)
+    }
+
+    /// The variable of an element: its name's, or a hidden one.
+    pub(crate) fn variable(&self, element: &Element) -> Sym
+        ensures { result ≡ element_variable (scope self.now) (element_by (name_of (names_of self.now)) element.now) }
     {
         match element.name {
             None => self.hidden(element.token),
-            Some(name) => self.number(name.sym),
+            Some(name) => self.named(name.sym),
         }
     }
 
     /// The variable of a part of a chain, if that is a node.
-    pub(crate) fn node_variable(&self, part: &Pattern) -> Result<Option<Sym>, Memory>
-        ensures { IfOk result (λ x. x ≡ node_variable self.now.scope (pattern_tree self.now.names part.now)) }
+    pub(crate) fn node_variable(&self, part: &Pattern) -> Option<Sym>
+        ensures { result ≡ node_variable (scope self.now) (pattern_tree (names_of self.now) part.now) }
     {
         match part {
-            Pattern::Node(element) => Ok(Some(self.variable(element)?)),
-            _ => Ok(None),
+            Pattern::Node(element) => Some(self.variable(element)),
+            _ => None,
         }
     }
 
     /// The variable of the first of the parts, if that is a node.
-    pub(crate) fn next_variable(&self, parts: &[Pattern]) -> Result<Option<Sym>, Memory>
-        ensures { IfOk result (λ x. x ≡ next_variable self.now.scope (row (map (pattern_tree self.now.names) parts.now))) }
+    pub(crate) fn next_variable(&self, parts: &[Pattern]) -> Option<Sym>
+        ensures { result ≡ next_variable (scope self.now) (row (map (pattern_tree (names_of self.now)) parts.now)) }
     {
         match parts.first() {
-            None => Ok(None),
+            None => None,
             Some(part) => self.node_variable(part),
         }
-    }
-}
-
-// The place of a name among others; one that is not there has the place behind the last.
-fn place_of(names: &NameList, name: &[u8]) -> usize
-    ensures { result ≡ unwrap_or (number_in names.now name.now) (length names.now) }
-{
-    match number_in(names.as_slice(), name) {
-        Some(number) => number,
-        None => names.len(),
-    }
-}
-
-// The number of a name.
-fn number_in(names: &[Name], name: &[u8]) -> Option<usize>
-    ensures { result ≡ number_in names.now name.now }
-{
-    names.iter().position(|other| name == other.bytes())
-}
-
-// The bytes of a name of a file. A number that its table lacks has none.
-fn bytes_of(names: &NameTable, sym: Sym) -> &[u8]
-    ensures { result.now ≡ name_of names.now sym }
-{
-    match names.as_slice().get(sym.0 as usize) {
-        Some(name) => name.bytes(),
-        None => &[],
     }
 }

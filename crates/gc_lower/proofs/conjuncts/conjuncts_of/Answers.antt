@@ -1,12 +1,13 @@
-use Rattle.std.proofs.Common.{◌≡◌, map, IfOk, sym, ap, ◌∙◌, subst}
 use Rattle.gc_expr.specs.Trees.{renamed}
+use Rattle.gc_lower.specs.Namings.{variable_in}
+use Rattle.std.proofs.Common.{◌≡◌, map, IfOk, sym, ap, ◌∙◌, subst}
 use Rattle.gc_expr.specs.Views.{numbered_expr}
-use Rattle.gc_lower.specs.Meaning.{variable_in}
-use Rattle.gc_lower.proofs.TreeRows.{conjuncts_of_and}
+use Rattle.gc_alg.specs.Views.{conjunct_tree, exists_tree}
+use Rattle.gc_lower.specs.Conditions.{dealt}
+use Rattle.gc_lower.proofs.Dealings.{parts_of_and}
 use Rattle.gc_lower.proofs.conjuncts.conjuncts_of.Goals as goal
 
 pub returns-in-And : goal.returns-in-And
 returns-in-And c =
-    let f = variable_in c.args.naming.now in
-    subst (λ trees. IfOk c.each.result (λ list. map (λ one. numbered_expr one.condition) list.items ≡ trees))
-    (ap (map (λ e. renamed f (numbered_expr e))) c.deref.ensures.value ∙ sym (conjuncts_of_and f c.args.condition.now c.in-And.parts c.in-And.is)) c.each.ensures
+    subst (λ trees. IfOk c.each.result (λ list. map conjunct_tree list.items ≡ dealt 0 trees (map exists_tree c.args.queries.items)))
+    (ap (map (λ e. renamed (variable_in c.args.naming.now) (numbered_expr e))) c.deref.ensures.value ∙ sym (parts_of_and (variable_in c.args.naming.now) c.args.condition.now c.in-And.parts c.in-And.is)) c.each.ensures

@@ -1,5 +1,5 @@
 use Rattle.std.proofs.Common.{◌≡◌, ◌++◌, drop}
-use Rattle.gc_lower.specs.Asked.{reads_of}
+use Rattle.gc_lower.specs.Reads.{reads_of}
 use Rattle.gc_lower.proofs.reads.reads_of.Given as goal
 
 -- the graphs so far and those of the rest are those of all

@@ -1,0 +1,32 @@
+ghost use Rattle.std.specs.Prelude.{◌≡◌, true};
+ghost use Rattle.std.specs.List.{list_all};
+ghost use Rattle.gc_base.specs.Words.{is_word};
+ghost use Rattle.gc_expr.specs.Views.{name_of};
+ghost use Rattle.gc_lower.specs.Scopes.{numbered};
+
+use gc_ast::NameTable;
+use gc_base::Sym;
+
+/// The variable of a name of a file, by the number that the file has for it: that number itself. A number
+/// past the name table has no name, and the number behind the last.
+#[tactic(auto, using(crate::proofs::Numbers::own_number, crate::proofs::Numbers::no_number))]
+pub fn variable(names: &NameTable, sym: Sym) -> Sym
+    ensures { result ≡ numbered names.now (name_of names.now sym) }
+{
+    read_words(names);
+    let _distinct = names.as_slice();
+    if sym.0 < names.len() {
+        sym
+    } else {
+        Sym(names.len())
+    }
+}
+
+// Reads each name of a table, which is a word by its type.
+fn read_words(names: &NameTable)
+    ensures { list_all is_word names.now ≡ true }
+{
+    for name in names.as_slice() {
+        let _word = name.bytes();
+    }
+}
