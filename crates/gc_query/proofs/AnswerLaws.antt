@@ -1,132 +1,136 @@
 -- When a CONSTRUCT is answered, by its items and its block.
-use Rattle.std.proofs.Common.{◌≡◌, ◌&&◌, ℕ, Bool, true, false, List, [], ◌∷◌, map, Option, Some, None, Vec, Global, refl, sym, ap, subst, ◌∙◌}
-use Rattle.std.specs.Prelude.{if◌then◌else◌}
-use Rattle.std.specs.List.{list_all, list_any}
-use Rattle.std.specs.Option.{is_some, option_map}
-use Rattle.gc_base.specs.PropertyLists.{is_nil}
+use Rattle.std.proofs.Common.{◌≡◌, List, [], ◌∷◌, ◌++◌, map, Option, Some, None, Vec, Global, refl, sym, ap, subst, ◌∙◌}
+use Rattle.std.specs.List.{flat_map}
+use Rattle.std.specs.Option.{option_map}
 use Rattle.gc_base.specs.declared.place.Sym.{Sym}
 use Rattle.gc_expr.specs.Views.{Names, name_of}
-use Rattle.gc_ast.specs.Names.{same_name}
-use Rattle.gc_ast.specs.PatternViews.{located_tree}
-use Rattle.gc_ast.specs.QueryViews.{basic_tree, block_tree, item_tree, optional_tree}
-use Rattle.gc_ast.specs.declared.pattern.Located.{Located}
+use Rattle.gc_ast.specs.QueryViews.{basic_tree, item_tree}
 use Rattle.gc_ast.specs.declared.query.Basic.{Basic, out-Basic}
-use Rattle.gc_ast.specs.declared.query.MatchBlock.{MatchBlock, out-MatchBlock}
+use Rattle.gc_ast.specs.declared.construct.Item.{Item}
 use Rattle.gc_ast.specs.Trees as tree
-use Rattle.gc_ast.specs.Trees.{Tree, ABlock, AnItem, AnOptional, RowOf, row}
-use Rattle.gc_alg.specs.declared.block.Block.{Block}
-use Rattle.gc_lower.specs.Asked.{Asked, IsLowering, asked}
-use Rattle.gc_lower.specs.Chains.{Scope, variable_among, variable_of}
-use Rattle.gc_lower.specs.Variables.{variables}
+use Rattle.gc_rows.specs.Tables.{Relation}
+use Rattle.gc_rows.specs.declared.row.Binding.{Binding}
 use Rattle.gc_spec.specs.PropertyGraph.{PropertyGraph}
-use Rattle.gc_query.specs.NodeAnswers.{IsAnswer, IsAnswering, IsMatched, IsTheAnswer, scope_of}
-use Rattle.gc_query.specs.NodeQueries.{NodeQuery, asked_if, asked_in, basic_query, block_names, is_matched, item_names, node_names}
-use Rattle.gc_query.specs.Numberings.{variable_at}
-use Rattle.gc_query.proofs.MatchedLaws.{asks_where_matched}
+use Rattle.gc_sorts.specs.declared.checked.Checked.{Checked}
+use Rattle.gc_values.specs.declared.reads.ReadUse.{ReadUse}
+use Rattle.gc_alg.specs.Networks.{Database}
+use Rattle.gc_alg.specs.Plans.{Means, PlanTree}
+use Rattle.gc_alg.specs.Tables.{IsTableOfBlock, IsTableOfPlan, block_atoms}
+use Rattle.gc_alg.specs.Trees.{Tree, ABlock, atoms_of, reads_of}
+use Rattle.gc_alg.specs.Views.{block_tree, part_tree}
+use Rattle.gc_alg.specs.declared.block.Block.{Block, out-Block}
+use Rattle.gc_alg.specs.declared.block.Part.{Part}
+use Rattle.gc_build.specs.BoundNodes.{IsOfBoundNodes}
+use Rattle.gc_exec.specs.Runs.{setting, without_segments}
+use Rattle.gc_lower.specs.Blocks.{block_of}
+use Rattle.gc_lower.specs.Namings.{scope_in, scope_of}
+use Rattle.gc_lower.specs.Scopes.{numbered}
+use Rattle.gc_plan.specs.TextPlans.{plan_of}
+use Rattle.gc_query.specs.NodeAnswers.{IsAnswer, IsAnswering, IsTheAnswer}
+use Rattle.gc_query.specs.NodeQueries.{NodeQuery, asked_if, asked_in, basic_query, item_names, node_variable, node_variables}
+use Rattle.gc_alg.proofs.Items.{parts_are}
+use Rattle.gc_lower.proofs.TreeParts.{basic_parts}
+use Rattle.gc_alg.proofs.Layers.{block_is}
 use Rattle.gc_query.proofs.OneAnswer.{one_answer}
-use Rattle.gc_lower.proofs.TreeParts.{block_parts}
-use Rattle.gc_query.proofs.TreeParts.{basic_parts}
 
 -- there is no answer to what is not built
-pub unanswered : (graph_names : List (List ℕ)) (graphs : List PropertyGraph) (query : Option NodeQuery) → query ≡ None → IsAnswering graph_names graphs query None
-unanswered graph_names graphs query h = subst (λ q. IsAnswering graph_names graphs q None) (sym h) tt
+pub unanswered : (graphs : List PropertyGraph) (query : Option NodeQuery) → query ≡ None → IsAnswering graphs query None
+unanswered graphs query h = subst (λ q. IsAnswering graphs q None) (sym h) tt
 
-without_optionals : {O : Type 0} (o : O → Tree AnOptional) (token : ℕ) (items : Tree (RowOf AnItem)) (block : Tree ABlock) (optionals : List O)
-    → basic_query (tree.Basic token items block (row (map o optionals))) ≡ (if is_nil optionals then asked_if block (item_names items) else None)
-without_optionals o token items block [] = refl
-without_optionals o token items block (x ∷ xs) = refl
+-- the reads of a block
+pub reads_are : (b : Block) → reads_of (block_tree b) ≡ (out-Block b).reads
+reads_are b = ap reads_of (block_is b)
 
--- what a CONSTRUCT asks for
-pub basic_asks : (names : Names) (basic : Basic)
-    → basic_query (basic_tree names basic)
-    ≡ (if is_nil (out-Basic basic).optionals.items then asked_if (block_tree names (out-Basic basic).main) (item_names (row (map (item_tree names) (out-Basic basic).items.items))) else None)
-basic_asks names basic =
-    ap basic_query (basic_parts names basic)
-    ∙ without_optionals (optional_tree names) (out-Basic basic).token (row (map (item_tree names) (out-Basic basic).items.items)) (block_tree names (out-Basic basic).main) (out-Basic basic).optionals.items
+-- the variables of its node patterns, from those of its parts
+pub nodes_are : (b : Block) (parts : List Part) (vars : List Sym) → parts ≡ (out-Block b).parts.items
+    → vars ≡ flat_map (λ a. node_variable a.what) (flat_map (λ p. atoms_of (part_tree p)) parts) → vars ≡ node_variables (block_tree b)
+nodes_are b parts vars same are =
+    let atoms : flat_map (λ p. atoms_of (part_tree p)) parts ≡ block_atoms (block_tree b) =
+    ap (flat_map (λ p. atoms_of (part_tree p))) same ∙ (of_map (out-Block b).parts.items ∙ sym (ap (flat_map atoms_of) (parts_are b))) in
+    are ∙ ap (flat_map (λ a. node_variable a.what)) atoms
+  where
+    of_map : (ps : List Part) → flat_map (λ p. atoms_of (part_tree p)) ps ≡ flat_map atoms_of (map part_tree ps)
+    of_map [] = refl
+    of_map (p ∷ ps) = ap (λ xs. atoms_of (part_tree p) ++ xs) (of_map ps)
 
-pub with_optionals_none : (names : Names) (basic : Basic) → is_nil (out-Basic basic).optionals.items ≡ false → basic_query (basic_tree names basic) ≡ None
-with_optionals_none names basic h =
-    basic_asks names basic
-    ∙ ap (λ b. if b then asked_if (block_tree names (out-Basic basic).main) (item_names (row (map (item_tree names) (out-Basic basic).items.items))) else None) h
+module _ (graphs : List PropertyGraph) (block : Tree ABlock) where
+  -- a table of the plan of a block is the table of the block
+  pub of_block : (p : PlanTree) (table : Relation) → p ≡ plan_of block → Means (without_segments graphs) block (plan_of block)
+      → IsTableOfPlan (setting graphs block []) p table → IsTableOfBlock (setting graphs block []) table
+  of_block p table same means t =
+      let alike : Means (without_segments graphs) block p = subst (Means (without_segments graphs) block) (sym same) means in
+      record {
+        over = t.over;
+        rows = t.rows;
+        sound = λ row m. (alike [] tt row).0 (t.sound row m);
+        complete = λ row h. t.complete row ((alike [] tt row).1 h);
+      }
 
-pub without_optionals_asks : (names : Names) (basic : Basic) (vars : Option (Vec Sym Global)) → is_nil (out-Basic basic).optionals.items ≡ true
-    → option_map (λ (v : Vec Sym Global). map (name_of names) v.items) vars ≡ item_names (row (map (item_tree names) (out-Basic basic).items.items))
-    → basic_query (basic_tree names basic) ≡ asked_if (block_tree names (out-Basic basic).main) (option_map (λ (v : Vec Sym Global). map (name_of names) v.items) vars)
-without_optionals_asks names basic vars empty same =
-    basic_asks names basic
-    ∙ (ap (λ b. if b then asked_if (block_tree names (out-Basic basic).main) (item_names (row (map (item_tree names) (out-Basic basic).items.items))) else None) empty
-    ∙ ap (asked_if (block_tree names (out-Basic basic).main)) (sym same))
+  -- the graph of its rows is the answer
+  pub the_answer : (vars : List Sym) (table : Relation) (reads : List ReadUse) (g : PropertyGraph) → IsTableOfBlock (setting graphs block []) table → reads ≡ reads_of block
+      → IsOfBoundNodes (record { rows = table.rows; reads = reads; graphs = graphs }) vars g → IsTheAnswer graphs (record { vars = vars; block = block }) g
+  the_answer vars table reads g matched same made =
+      let right : IsAnswer graphs (record { vars = vars; block = block }) g = record {
+        table = table;
+        matched = matched;
+        made = subst (λ r. IsOfBoundNodes (record { rows = table.rows; reads = r; graphs = graphs }) vars g) same made;
+      } in
+      record { right = right; only = λ other also. one_answer graphs (record { vars = vars; block = block }) other g also right }
+
+-- so it is where the table is that of the plan, for nothing given
+pub answered : (graphs : List PropertyGraph) (b : Block) (p : PlanTree) (given : List Binding) (table : Relation) (rows : List (List Binding)) (vars : List Sym) (g : PropertyGraph)
+    → p ≡ plan_of (block_tree b) → given ≡ [] → rows ≡ table.rows → ((db : Database) (block : Tree ABlock) → Means db block (plan_of block))
+    → IsTableOfPlan (setting graphs (block_tree b) given) p table → IsOfBoundNodes (record { rows = rows; reads = (out-Block b).reads; graphs = graphs }) vars g
+    → IsTheAnswer graphs (record { vars = vars; block = block_tree b }) g
+answered graphs b p given table rows vars g same none all means t made =
+    let right : IsTableOfPlan (setting graphs (block_tree b) []) p table = subst (λ row. IsTableOfPlan (setting graphs (block_tree b) row) p table) none t in
+    the_answer graphs (block_tree b) vars table (out-Block b).reads g
+    (of_block graphs (block_tree b) p table same (means (without_segments graphs) (block_tree b)) right) (sym (reads_are b))
+    (subst (λ rs. IsOfBoundNodes (record { rows = rs; reads = (out-Block b).reads; graphs = graphs }) vars g) all made)
 
 -- the variables of numbers are those of the names that the file has there
-all_at : (variables names : Names) (syms : List Sym) → map (variable_at variables names) syms ≡ map (variable_among variables) (map (name_of names) syms)
-unfolding variable_at
-all_at variables names [] = refl
-all_at variables names (x ∷ xs) = ap (λ rest. variable_among variables (name_of names x) ∷ rest) (all_at variables names xs)
+all_numbered : (names : Names) (syms : List Sym) → map (λ s. numbered names (name_of names s)) syms ≡ map (numbered names) (map (name_of names) syms)
+all_numbered names [] = refl
+all_numbered names (x ∷ xs) = ap (λ rest. numbered names (name_of names x) ∷ rest) (all_numbered names xs)
 
-module _ (graph_names : List (List ℕ)) (graphs : List PropertyGraph) (names : Names) (main : MatchBlock) (syms : List Sym) where
-  abbrev pub are_named : Bool
-  are_named = list_all (λ name. list_any (same_name name) (node_names (row (map (located_tree names) (out-MatchBlock main).patterns)))) (map (name_of names) syms)
+module _ (checked : Checked) (basic : Basic) where
+  abbrev names : Names
+  names = checked.file.names
 
-  pub are_all_named : (all : Bool) (chains : List Located) → chains ≡ (out-MatchBlock main).patterns
-      → all ≡ list_all (λ name. list_any (same_name name) (node_names (row (map (located_tree names) chains)))) (map (name_of names) syms) → all ≡ true → are_named ≡ true
-  are_all_named all chains same of h =
-      ap (λ ls. list_all (λ name. list_any (same_name name) (node_names (row (map (located_tree names) ls)))) (map (name_of names) syms)) (sym same) ∙ (sym of ∙ h)
+  abbrev lowered : Tree ABlock
+  lowered = block_of (scope_of checked 0) [] (basic_tree names basic)
 
-  abbrev pub block : Tree ABlock
-  block = block_tree names main
-
-  abbrev pub query : NodeQuery
-  query = record { names = map (name_of names) syms; block = block }
-
-  abbrev pub scope : Scope
-  scope = scope_of graph_names block
-
-  names_are : block_names block ≡ node_names (row (map (located_tree names) (out-MatchBlock main).patterns))
-  names_are = ap block_names (block_parts names main)
-
-  asks : asked_in block (map (name_of names) syms) ≡ (if are_named && is_some (asked scope block) then Some query else None)
+  -- what a CONSTRUCT asks for
+  asks : basic_query (scope_of checked 0) (basic_tree names basic) ≡ asked_if (scope_of checked 0) lowered (item_names (tree.row (map (item_tree names) (out-Basic basic).items.items)))
   asks =
-      ap (λ nodes. if list_all (λ name. list_any (same_name name) nodes) (map (name_of names) syms) && is_matched block then Some query else None) names_are
-      ∙ ap (λ b. if are_named && b then Some query else None) (sym (asks_where_matched scope block))
+      ap (basic_query (scope_of checked 0)) (basic_parts names basic)
+      ∙ ap (λ b. asked_if (scope_of checked 0) (block_of (scope_of checked 0) [] b) (item_names (tree.row (map (item_tree names) (out-Basic basic).items.items)))) (sym (basic_parts names basic))
 
-  pub unnamed : are_named ≡ false → asked_in block (map (name_of names) syms) ≡ None
-  unnamed h = asks ∙ ap (λ b. if b && is_some (asked scope block) then Some query else None) h
+  module _ (graphs : List PropertyGraph) (syms : Option (Vec Sym Global)) (items : List Item) (same : items ≡ (out-Basic basic).items.items)
+      (are : (table : Names) → option_map (λ (v : Vec Sym Global). map (name_of table) v.items) syms ≡ item_names (tree.row (map (item_tree table) items))) where
+    item_names_are : option_map (λ (v : Vec Sym Global). map (name_of names) v.items) syms ≡ item_names (tree.row (map (item_tree names) (out-Basic basic).items.items))
+    item_names_are = are names ∙ ap (λ (xs : List Item). item_names (tree.row (map (item_tree names) xs))) same
 
-  and_false : (b : Bool) → (b && false) ≡ false
-  and_false true = refl
-  and_false false = refl
+    pub unnamed : syms ≡ None → IsAnswering graphs (basic_query (scope_of checked 0) (basic_tree names basic)) None
+    unnamed none =
+        unanswered graphs (basic_query (scope_of checked 0) (basic_tree names basic))
+        (asks ∙ ap (asked_if (scope_of checked 0) lowered) (sym item_names_are ∙ ap (option_map (λ (v : Vec Sym Global). map (name_of names) v.items)) none))
 
-  not_lowered : (found : Option Asked) → IsLowering found None → is_some found ≡ false
-  not_lowered None h = refl
-  not_lowered (Some a) h = absurd h
+    asks_named : (v : Vec Sym Global) (vars : List Sym) → syms ≡ Some v → vars ≡ map (λ s. numbered names (name_of names s)) v.items
+        → basic_query (scope_of checked 0) (basic_tree names basic) ≡ asked_in lowered vars
+    unfolding scope_in
+    asks_named v vars some are_vars =
+        asks
+        ∙ (ap (asked_if (scope_of checked 0) lowered) (sym item_names_are ∙ ap (option_map (λ (v : Vec Sym Global). map (name_of names) v.items)) some)
+        ∙ ap (asked_in lowered) (sym (are_vars ∙ all_numbered names v.items)))
 
-  -- what names stand for where these are the variables
-  abbrev pub scope_with : Names → Scope
-  scope_with variables = record { variables = variables; graphs = graph_names }
-
-  pub unmatched : (vars : Names) → vars ≡ variables block → IsLowering (asked (scope_with vars) block) None → asked_in block (map (name_of names) syms) ≡ None
-  unmatched vars same h =
-      let none = not_lowered (asked scope block) (subst (λ v. IsLowering (asked (scope_with v) block) None) same h) in
-      asks ∙ (ap (λ b. if are_named && b then Some query else None) none ∙ ap (λ b. if b then Some query else None) (and_false are_named))
-
-  -- an answer is the only one
-  the_answer : (g : PropertyGraph) → IsAnswer graph_names graphs query g → IsTheAnswer graph_names graphs query g
-  the_answer g right = record { right = right; only = λ other also. one_answer graph_names graphs query other g also right }
-
-  answered_with : (found : Option Asked) (lowered : Block) (g : PropertyGraph) → asked scope block ≡ found → IsLowering found (Some lowered) → are_named ≡ true
-      → IsMatched graphs lowered (map (variable_of scope) (map (name_of names) syms)) g
-      → IsAnswering graph_names graphs (if are_named && is_some (asked scope block) then Some query else None) (Some g)
-  answered_with None lowered g same asks_for named matched = absurd asks_for
-  answered_with (Some atoms) lowered g same asks_for named matched =
-      subst (λ b. IsAnswering graph_names graphs (if b && is_some (asked scope block) then Some query else None) (Some g)) (sym named)
-      (subst (λ o. IsAnswering graph_names graphs (if is_some o then Some query else None) (Some g)) (sym same)
-      (the_answer g (record { atoms = atoms; asks = same; block = lowered; lowered = asks_for; matched = matched })))
-
-  pub answered : (vars : Names) (lowered : Block) (bound : List Sym) (g : PropertyGraph) → vars ≡ variables block → are_named ≡ true → IsLowering (asked (scope_with vars) block) (Some lowered)
-      → bound ≡ map (variable_at vars names) syms → IsMatched graphs lowered bound g
-      → IsAnswering graph_names graphs (asked_in block (map (name_of names) syms)) (Some g)
-  answered vars lowered bound g same named asks_for are matched =
-      let lowers : IsLowering (asked scope block) (Some lowered) = subst (λ v. IsLowering (asked (scope_with v) block) (Some lowered)) same asks_for in
-      let of : bound ≡ map (variable_of scope) (map (name_of names) syms) = are ∙ (all_at vars names syms ∙ ap (λ v. map (variable_among v) (map (name_of names) syms)) same) in
-      subst (λ q. IsAnswering graph_names graphs q (Some g)) (sym asks)
-      (answered_with (asked scope block) lowered g refl lowers named (subst (λ v. IsMatched graphs lowered v g) of matched))
+    pub named : (v : Vec Sym Global) → syms ≡ Some v → (table : Names) → table ≡ names → (numbers : List Sym) → numbers ≡ v.items
+        → (vars : List Sym) → vars ≡ map (λ s. numbered table (name_of table s)) numbers
+        → (block : Tree ABlock) → block ≡ lowered → (asked : List Sym) → asked ≡ vars
+        → (found : Option PropertyGraph) → IsAnswering graphs (asked_in block asked) found → IsAnswering graphs (basic_query (scope_of checked 0) (basic_tree names basic)) found
+    named v some table of_file numbers are_numbers vars are_vars block is asked are_asked found h =
+        let due : vars ≡ map (λ s. numbered names (name_of names s)) v.items =
+        are_vars ∙ (ap (λ t. map (λ s. numbered t (name_of t s)) numbers) of_file ∙ ap (map (λ s. numbered names (name_of names s))) are_numbers) in
+        let query : asked_in block asked ≡ basic_query (scope_of checked 0) (basic_tree names basic) =
+        ap (λ b. asked_in b asked) is ∙ (ap (asked_in lowered) are_asked ∙ sym (asks_named v vars some due)) in
+        subst (λ q. IsAnswering graphs q found) query h

@@ -1,8 +1,7 @@
 pub mod AnswerLaws
 pub mod BasicLaws
 pub mod ItemLaws
-pub mod MatchedLaws
 pub mod OneAnswer
 pub mod OneGraph
-pub mod Tables
-pub mod TreeParts
+pub mod PlainBlocks
+pub mod PlanRuns

@@ -1,4 +1,3 @@
 pub mod NodeAnswers
 pub mod NodeQueries
-pub mod Numberings
 pub mod OnlyBasics

@@ -1,29 +1,37 @@
 -- Which query files are built: one statement, which is a CONSTRUCT of nodes of its MATCH by their names alone.
-use Rattle.std.specs.Prelude.{ℕ, List, [], ◌∷◌, ◌++◌, Bool, true, false, ◌&&◌, ◌||◌, if◌then◌else◌, Option, Some, None}
-use Rattle.std.specs.List.{list_all, list_any}
-use Rattle.gc_ast.specs.Names.{same_name}
-use Rattle.gc_ast.specs.Trees as tree
-use Rattle.gc_ast.specs.Trees.{Tree, Named, RowOf, AStatement, AFormula, ABasic, ABlock, ALocated, APattern, AnElement, APathBody, AnItem, AConstructPart, ANewElement}
-use Rattle.gc_query.specs.OnlyBasics.{only_basic}
+use Rattle.std.specs.Prelude.{ℕ, List, [], ◌∷◌, Bool, true, false, ◌&&◌, map, if◌then◌else◌, Option, Some, None}
+use Rattle.std.specs.List.{flat_map, list_all}
+use Rattle.gc_base.specs.declared.place.Sym.{Sym}
+use Rattle.gc_ast.specs.Trees as ast
+use Rattle.gc_ast.specs.Trees.{ABasic, AnItem, AConstructPart, ANewElement}
+use Rattle.gc_rows.specs.Rows.{lists}
+use Rattle.gc_alg.specs.Tables.{block_atoms}
+use Rattle.gc_alg.specs.Trees.{Kind, Tree, ABlock, APart, AConjunct, BlockOf, PartOf, ConjunctOf, ExistsOf, none, more, items, parts_of, conjuncts_of}
+use Rattle.gc_alg.specs.declared.atom.AtomWhat.{AtomWhat}
+use Rattle.gc_alg.specs.declared.atom.AtomWhat.TheVariants as atom
+use Rattle.gc_lower.specs.Blocks.{block_of}
+use Rattle.gc_lower.specs.Namings.{QueryFile, scope_in}
+use Rattle.gc_lower.specs.Scopes.{Scope, variable_of}
+use Rattle.gc_query.specs.OnlyBasics.{only, only_basic}
 
--- what is asked for: the nodes of these names, in all rows of a block
+-- what is asked for: the nodes to which the rows of a block bind these variables
 pub record NodeQuery : Type 0 where
-  pub names : List (List ℕ)
+  pub vars : List Sym
   pub block : Tree ABlock
 
 -- the name of a new node that has nothing else
-abbrev pub new_name : Tree ANewElement → Option (List ℕ)
-new_name (tree.NewElement token (Some x) None tree.none [] tree.none) = Some x.name
+abbrev pub new_name : ast.Tree ANewElement → Option (List ℕ)
+new_name (ast.NewElement token (Some x) None ast.none [] ast.none) = Some x.name
 new_name element = None
 
 -- the name in `(v)`
-abbrev pub part_name : Tree AConstructPart → Option (List ℕ)
-part_name (tree.NewNode element) = new_name element
+abbrev pub part_name : ast.Tree AConstructPart → Option (List ℕ)
+part_name (ast.NewNode element) = new_name element
 part_name part = None
 
 -- the name in an item that is `(v)` alone, without changes and condition
-abbrev pub item_name : Tree AnItem → Option (List ℕ)
-item_name (tree.ChainItem (tree.more part tree.none) tree.none tree.none) = part_name part
+abbrev pub item_name : ast.Tree AnItem → Option (List ℕ)
+item_name (ast.ChainItem (ast.more part ast.none) ast.none ast.none) = part_name part
 item_name item = None
 
 -- one more in front, where both are there
@@ -32,91 +40,72 @@ with_front (Some x) (Some xs) = Some (x ∷ xs)
 with_front x xs = None
 
 -- the names of items, where each is `(v)`
-abbrev pub item_names : Tree (RowOf AnItem) → Option (List (List ℕ))
-item_names tree.none = Some []
-item_names (tree.more item items) = with_front (item_name item) (item_names items)
+abbrev pub item_names : ast.Tree (ast.RowOf AnItem) → Option (List (List ℕ))
+item_names ast.none = Some []
+item_names (ast.more item items) = with_front (item_name item) (item_names items)
 
--- the name of a pattern as a list, empty where it has none
-abbrev pub listed : Option Named → List (List ℕ)
-listed None = []
-listed (Some x) = x.name ∷ []
+-- whether an atom looks for no walk
+abbrev pub asks_no_walk : AtomWhat → Bool
+asks_no_walk (atom.Node x labels) = true
+asks_no_walk (atom.Edge x e y way labels) = true
+asks_no_walk (atom.Property x kind name v) = true
+asks_no_walk (atom.Stored x p y labels) = true
+asks_no_walk (atom.Reach x y regex views) = false
+asks_no_walk (atom.Found x p y k cost regex views) = false
+asks_no_walk (atom.All x p y regex views) = false
 
-abbrev pub element_names : Tree AnElement → List (List ℕ)
-element_names (tree.Element token name labels properties) = listed name
+-- the same of all atoms of a block, and of the EXISTS queries in it
+unfoldable pub no_walks : {k : Kind} → Tree k → Bool
+no_walks (BlockOf parts reads) = no_walks parts
+no_walks (PartOf atoms conjuncts) = list_all (λ a. asks_no_walk a.what) atoms && no_walks conjuncts
+no_walks (ConjunctOf condition queries) = no_walks queries
+no_walks (ExistsOf outer block tree) = no_walks block
+no_walks none = true
+no_walks (more t ts) = no_walks t && no_walks ts
 
-abbrev pub pattern_names : Tree APattern → List (List ℕ)
-pattern_names (tree.Node element) = element_names element
-pattern_names pattern = []
+-- the variable of a node pattern, as a list, empty where an atom is none
+abbrev pub node_variable : AtomWhat → List Sym
+node_variable (atom.Node x labels) = x ∷ []
+node_variable (atom.Edge x e y way labels) = []
+node_variable (atom.Property x kind name v) = []
+node_variable (atom.Stored x p y labels) = []
+node_variable (atom.Reach x y regex views) = []
+node_variable (atom.Found x p y k cost regex views) = []
+node_variable (atom.All x p y regex views) = []
 
--- the names of the node patterns of a chain, and of chains
-abbrev pub chain_names : Tree (RowOf APattern) → List (List ℕ)
-chain_names tree.none = []
-chain_names (tree.more pattern patterns) = pattern_names pattern ++ chain_names patterns
+-- the variables of the node patterns of a block
+abbrev pub node_variables : Tree ABlock → List Sym
+node_variables block = flat_map (λ a. node_variable a.what) (block_atoms block)
 
-abbrev pub node_names : Tree (RowOf ALocated) → List (List ℕ)
-node_names tree.none = []
-node_names (tree.more (tree.Located parts on) located) = chain_names parts ++ node_names located
+-- whether a block has one part, whose conditions have no EXISTS queries: others are not built yet
+abbrev pub has_no_query : Tree AConjunct → Bool
+has_no_query (ConjunctOf condition none) = true
+has_no_query (ConjunctOf condition (more query queries)) = false
 
--- patterns that are matched: nodes, edges and stored paths, but no path that is to be found
-abbrev pub is_node : Tree APattern → Bool
-is_node (tree.Node element) = true
-is_node pattern = false
+abbrev pub is_plain_if : Option (Tree APart) → Bool
+is_plain_if None = false
+is_plain_if (Some part) = list_all has_no_query (items (conjuncts_of part))
 
-abbrev pub is_stored : Tree APathBody → Bool
-is_stored (tree.Stored name labels) = true
-is_stored body = false
+abbrev pub is_plain : Tree ABlock → Bool
+is_plain block = is_plain_if (only (items (parts_of block)))
 
-abbrev pub is_link : Tree APattern → Bool
-is_link (tree.Edge way element) = true
-is_link (tree.Path token regex_at body) = is_stored body
-is_link pattern = false
+-- what asks for these variables, where each is that of a node pattern of the block, and the block is plain and looks for no walk
+abbrev pub asked_in : Tree ABlock → List Sym → Option NodeQuery
+asked_in block vars =
+    if list_all (lists (node_variables block)) vars && (is_plain block && no_walks block) then Some (record { vars = vars; block = block }) else None
 
-abbrev pub begins_with_node : Tree (RowOf APattern) → Bool
-begins_with_node tree.none = false
-begins_with_node (tree.more pattern patterns) = is_node pattern
+abbrev pub asked_if : Scope → Tree ABlock → Option (List (List ℕ)) → Option NodeQuery
+asked_if s block None = None
+asked_if s block (Some names) = asked_in block (map (variable_of s) names)
 
--- each part of a chain is a node, or such a link with a node before and after it
-abbrev pub is_chain_matched : (behind_node : Bool) → Tree (RowOf APattern) → Bool
-is_chain_matched behind_node tree.none = true
-is_chain_matched behind_node (tree.more pattern patterns) =
-    (is_node pattern || ((behind_node && begins_with_node patterns) && is_link pattern)) && is_chain_matched (is_node pattern) patterns
+-- a CONSTRUCT of nodes of its MATCH
+abbrev pub basic_query : Scope → ast.Tree ABasic → Option NodeQuery
+basic_query s (ast.Basic token items main optionals) = asked_if s (block_of s [] (ast.Basic token items main optionals)) (item_names items)
 
-abbrev pub are_matched : Tree (RowOf ALocated) → Bool
-are_matched tree.none = true
-are_matched (tree.more (tree.Located parts on) located) = is_chain_matched false parts && are_matched located
-
--- there is no condition, or one without EXISTS
-abbrev pub has_no_exists : Tree (RowOf AFormula) → Bool
-has_no_exists tree.none = true
-has_no_exists (tree.more (tree.Formula e tree.none) formulas) = true
-has_no_exists formulas = false
-
--- a block of such patterns and such a condition
-abbrev pub is_matched : Tree ABlock → Bool
-is_matched (tree.Block patterns filter) = are_matched patterns && has_no_exists filter
-
--- the names of the node patterns of a block
-abbrev pub block_names : Tree ABlock → List (List ℕ)
-block_names (tree.Block patterns filter) = node_names patterns
-
--- what asks for these names, where each is that of a node of the block, and the block is matched
-abbrev pub asked_in : Tree ABlock → List (List ℕ) → Option NodeQuery
-asked_in block names =
-    if list_all (λ name. list_any (same_name name) (block_names block)) names && is_matched block then Some (record { names = names; block = block }) else None
-
-abbrev pub asked_if : Tree ABlock → Option (List (List ℕ)) → Option NodeQuery
-asked_if block None = None
-asked_if block (Some names) = asked_in block names
-
--- a CONSTRUCT of nodes of its MATCH, without OPTIONAL
-abbrev pub basic_query : Tree ABasic → Option NodeQuery
-basic_query (tree.Basic token items block tree.none) = asked_if block (item_names items)
-basic_query basic = None
-
-abbrev pub basic_query_if : Option (Tree ABasic) → Option NodeQuery
-basic_query_if None = None
-basic_query_if (Some basic) = basic_query basic
+abbrev pub basic_query_if : Scope → Option (ast.Tree ABasic) → Option NodeQuery
+basic_query_if s None = None
+basic_query_if s (Some basic) = basic_query s basic
 
 -- what a query file asks for, where one CONSTRUCT is all of it and is built
-abbrev pub node_query : List (Tree AStatement) → Option NodeQuery
-node_query statements = basic_query_if (only_basic statements)
+abbrev pub node_query : QueryFile → Option NodeQuery
+node_query f = basic_query_if (scope_in f 0) (only_basic f.statements)

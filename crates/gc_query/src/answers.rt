@@ -1,109 +1,106 @@
-ghost use Rattle.std.specs.Prelude.{◌≡◌, ◌∷◌, [], length, map, IfOk};
-ghost use Rattle.gc_alg.specs.declared.block.Part.{Part};
-ghost use Rattle.gc_ast.specs.QueryViews.{basic_tree, block_tree, file_trees};
-ghost use Rattle.gc_expr.specs.Views.{name_of};
-ghost use Rattle.gc_query.specs.NodeAnswers.{HasRowsOf, IsAnswering, IsMatched};
-ghost use Rattle.gc_query.specs.NodeQueries.{asked_in, basic_query, node_query};
+ghost use Rattle.std.specs.Prelude.{◌≡◌, true, IfOk};
+ghost use Rattle.gc_alg.specs.Views.{block_tree};
+ghost use Rattle.gc_ast.specs.QueryViews.{basic_tree};
+ghost use Rattle.gc_lower.specs.Namings.{file_of, scope_of};
+ghost use Rattle.gc_query.specs.NodeAnswers.{IsAnswering, IsTheAnswer};
+ghost use Rattle.gc_query.specs.NodeQueries.{asked_in, basic_query, no_walks, node_query};
 
 use crate::basics::only_basic;
-use crate::items::{is_nil, item_vars};
-use crate::nodes::{all_variables, are_nodes};
-use crate::plans::text_plan;
+use crate::blocks::{are_nodes, is_plain, no_walks};
+use crate::items::{all_variables, item_vars};
 use gc_alg::Block;
-use gc_ast::{Basic, File, MatchBlock, NameTable};
-use gc_base::{Memory, NameList, Steps, Sym};
+use gc_ast::Basic;
+use gc_base::{Memory, Steps, Sym};
 use gc_build::bound_nodes;
 use gc_exec::run;
-use gc_lower::{lower, variables};
+use gc_lower::lower_match;
+use gc_plan::{plan, the_plan_of_a_block_means_it};
 use gc_ppg::{Graph, GraphList};
-use gc_rows::{Row, Table};
+use gc_rows::Row;
+use gc_sorts::Checked;
 use std::alloc::Global;
 use std::sync::ledger::Ledger;
 
-// What a query is answered over: graphs and their names, both by number. It carries the allocator of
-// what is made.
+// What a query is answered over: its file, and graphs by number. It carries the allocator of what is
+// made.
 #[derive(Drop)]
 struct Session<'a> {
     alloc: Global,
-    names: &'a NameList,
+    checked: &'a Checked,
     graphs: &'a GraphList,
 }
 
-/// The graph that answers a query file over graphs and their names, both by number; `steps` counts
-/// what is read. There is `None` exactly where the query is not built: where the file is anything but
-/// one CONSTRUCT of nodes of its MATCH by their names alone. Numbers that pass their type are want of
-/// memory.
+/// The graph that answers a query file over graphs by number; `steps` counts what is read. There is
+/// `None` exactly where the query is not built: where the file is anything but one CONSTRUCT of nodes of
+/// its MATCH by their names alone, or where the MATCH has OPTIONAL or EXISTS or looks for a walk. Numbers that pass their type are
+/// want of memory.
 pub fn answer<L: Ledger>(
     alloc: Global,
-    file: &File,
-    names: &NameList,
+    checked: &Checked,
     graphs: &GraphList,
     steps: &mut Steps<L>,
 ) -> Result<Option<Graph>, Memory>
-    ensures { IfOk result (IsAnswering names.now graphs.now (node_query (file_trees file.now))) }
+    ensures { IfOk result (IsAnswering graphs.now (node_query (file_of checked.now))) }
 {
     let session = Session {
         alloc,
-        names,
+        checked,
         graphs,
     };
-    match only_basic(file) {
-        Some(basic) => basic_answer(&session, &file.names, basic, steps),
+    match only_basic(checked.file()) {
+        Some(basic) => basic_answer(&session, basic, steps),
         None => Ok(None),
     }
 }
 
-// The graph that answers a CONSTRUCT with its MATCH. The table has the names of its file.
+// The graph that answers a CONSTRUCT with its MATCH.
 fn basic_answer<L: Ledger>(
     session: &Session<'_>,
-    table: &NameTable,
     basic: &Basic,
     steps: &mut Steps<L>,
 ) -> Result<Option<Graph>, Memory>
-    ensures { IfOk result (IsAnswering session.now.names.now session.now.graphs.now (basic_query (basic_tree table.now basic.now))) }
+    ensures { IfOk result (IsAnswering session.now.graphs.now
+        (basic_query (scope_of session.now.checked.now 0) (basic_tree session.now.checked.now.file.names basic.now))) }
 {
-    if !is_nil(&basic.optionals) {
+    let Some(syms) = item_vars(session.alloc, &basic.items)? else {
         return Ok(None);
-    }
-    match item_vars(session.alloc, &basic.items)? {
-        Some(vars) => block_answer(session, table, &basic.main, &vars, steps),
-        None => Ok(None),
-    }
+    };
+    let names = &session.checked.file().names;
+    let vars = all_variables(session.alloc, names, &syms)?;
+    let lowered = lower_match(session.alloc, session.checked, basic)?;
+    block_answer(session, &lowered.block, &vars, steps)
 }
 
-// The graph of the nodes that a block binds to the variables of these names, which are given by number.
+// The graph of the nodes that a block binds to variables, if that is built.
 fn block_answer<L: Ledger>(
     session: &Session<'_>,
-    table: &NameTable,
-    main: &MatchBlock,
+    block: &Block,
     vars: &[Sym],
     steps: &mut Steps<L>,
 ) -> Result<Option<Graph>, Memory>
-    ensures { IfOk result (IsAnswering session.now.names.now session.now.graphs.now
-        (asked_in (block_tree table.now main.now) (map (name_of table.now) vars.now))) }
+    ensures { IfOk result (IsAnswering session.now.graphs.now (asked_in (block_tree block.now) vars.now)) }
 {
-    if !are_nodes(session.alloc, table, main.patterns.as_slice(), vars)? {
-        return Ok(None);
-    }
-    let variables = variables(session.alloc, table, main)?;
-    let bound = all_variables(session.alloc, table, &variables, vars)?;
-    match lower(session.alloc, table, &variables, session.names, main)? {
-        Some(block) => Ok(Some(matched(session, &block, &bound, steps)?)),
-        None => Ok(None),
+    if are_nodes(session.alloc, block, vars)? && (is_plain(block) && no_walks(block)) {
+        Ok(Some(matched(session, block, vars, steps)?))
+    } else {
+        Ok(None)
     }
 }
 
-// The graph of the nodes to which the rows of a block of one part bind variables.
+// The graph of the nodes to which the table of a block binds variables.
 fn matched<L: Ledger>(
     session: &Session<'_>,
     block: &Block,
     vars: &[Sym],
     steps: &mut Steps<L>,
 ) -> Result<Graph, Memory>
-    requires { length block.now.parts.items ≡ 1 }
-    ensures { IfOk result (IsMatched session.now.graphs.now block.now vars.now) }
+    requires { no_walks (block_tree block.now) ≡ true }
+    ensures { IfOk result (IsTheAnswer session.now.graphs.now (record { vars = vars.now; block = block_tree block.now })) }
 {
-    let table = block_table(session, block, steps)?;
+    the_plan_of_a_block_means_it();
+    let plan = plan(session.alloc, block)?;
+    let given = Row::empty(session.alloc);
+    let table = run(session.alloc, &plan, block, session.graphs, &given, steps)?;
     let rows = table.rows().as_slice();
     bound_nodes(
         session.alloc,
@@ -113,18 +110,4 @@ fn matched<L: Ledger>(
         session.graphs,
         steps,
     )
-}
-
-// The rows of a block of one part, when nothing is given.
-fn block_table<L: Ledger>(
-    session: &Session<'_>,
-    block: &Block,
-    steps: &mut Steps<L>,
-) -> Result<Table, Memory>
-    requires { length block.now.parts.items ≡ 1 }
-    ensures { (part : Part) → block.now.parts.items ≡ part ∷ [] → IfOk result (λ table. HasRowsOf session.now.graphs.now block.now part table.rows) }
-{
-    let plan = text_plan(session.alloc, &block.parts[0])?;
-    let given = Row::empty(session.alloc);
-    run(session.alloc, &plan, block, session.graphs, &given, steps)
 }

@@ -4,14 +4,18 @@ ghost use Rattle.gc_base.specs.PropertyLists.{is_nil};
 ghost use Rattle.gc_expr.specs.Views.{Names, name_of};
 ghost use Rattle.gc_ast.specs.Trees.{row};
 ghost use Rattle.gc_ast.specs.QueryViews.{item_tree, part_tree, new_element_tree};
+ghost use Rattle.gc_lower.specs.Scopes.{numbered};
 ghost use Rattle.gc_query.specs.NodeQueries.{item_name, item_names, new_name, part_name};
 ghost use Rattle.gc_query.specs.OnlyBasics.{only};
 
-use gc_ast::{AssignList, ChangeList, ConstructPart, Formula, GroupTermList, Item, NewElement};
+use gc_ast::{
+    AssignList, ChangeList, ConstructPart, Formula, GroupTermList, Item, NameTable, NewElement,
+};
 use gc_base::{Memory, NameAt, NameList, Sym};
+use gc_lower::variable;
 use std::alloc::Global;
 
-/// The variables of items, where each is a node's name alone.
+/// The names of items, by their numbers in the file, where each is a node's name alone.
 pub fn item_vars(alloc: Global, items: &[Item]) -> Result<Option<Vec<Sym>>, Memory>
     ensures { (names : Names) → IfOk result (λ vars. option_map (λ v. map (name_of names) v.items) vars ≡ item_names
         (row (map (item_tree names) items.now))) }
@@ -24,6 +28,17 @@ pub fn item_vars(alloc: Global, items: &[Item]) -> Result<Option<Vec<Sym>>, Memo
         }
     }
     Ok(Some(vars))
+}
+
+/// The variables of names of a file, which are given by number, in their order.
+pub fn all_variables(alloc: Global, names: &NameTable, syms: &[Sym]) -> Result<Vec<Sym>, Memory>
+    ensures { IfOk result (λ vars. vars.items ≡ map (λ s. numbered names.now (name_of names.now s)) syms.now) }
+{
+    let mut vars = Vec::with_capacity(alloc, syms.len())?;
+    for sym in syms {
+        vars.push(variable(names, *sym))?;
+    }
+    Ok(vars)
 }
 
 // The name in `(v)`, where an item is that alone.

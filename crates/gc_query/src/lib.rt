@@ -4,8 +4,7 @@
 
 mod answers;
 mod basics;
+mod blocks;
 mod items;
-mod nodes;
-mod plans;
 
 pub use answers::answer;

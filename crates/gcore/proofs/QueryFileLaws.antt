@@ -14,19 +14,16 @@ use Rattle.gc_parse.specs.Parses.{parsed}
 use Rattle.gc_sorts.specs.declared.breach.Breach.{Breach}
 use Rattle.gc_sorts.specs.declared.breach.SortRule.{SortRule}
 use Rattle.gc_sorts.specs.SortRules.{first_breach}
-use Rattle.gcore.specs.Outcomes.{built, query_of, then_due}
-use Rattle.gcore.specs.QueryFiles.{breach_place, first_place, sorted_at, statements_in, statements_at, token_place, unless_broken}
+use Rattle.gcore.specs.Outcomes.{asked_of, built, query_of, then_due}
+use Rattle.gcore.specs.QueryFiles.{breach_place, file_over, first_place, query_file_at, query_file_in, sorted_at, token_place, unless_broken}
+use Rattle.gc_lower.specs.Namings.{QueryFile}
+use Rattle.gc_parse_source.specs.Sources.{names_among}
 use Rattle.gc_query.specs.NodeQueries.{NodeQuery, node_query}
-use Rattle.gcore.specs.declared.stop.Stop.{Stop}
 use Rattle.gcore.specs.declared.stop.Stop.TheVariants.{Sorts, Text}
 use Rattle.gcore.specs.declared.text_refusal.TextRefusal.{TextRefusal}
 use Rattle.gcore.specs.declared.text_refusal.TextRefusal.TheVariants.{TooDeep, Syntax}
 use Rattle.gcore.proofs.TextPlaces.{places_count, item_there, deep_within}
 use Rattle.gc_parse.proofs.ParsedLaws.{parsed_spelled, parsed_deep, parsed_refused, parsed_spells}
-
--- what statements ask for
-abbrev asked : List (Tree AStatement) → Result NodeQuery Stop
-asked statements = built (node_query statements)
 
 not_text : (o : Option NodeQuery) (refusal : TextRefusal) → built o ≡ Err (Text refusal) → ⊥
 not_text None refusal h = cc
@@ -36,61 +33,61 @@ not_sorts : (o : Option NodeQuery) (rule : SortRule) (place : Place) → built o
 not_sorts None rule place h = cc
 not_sorts (Some query) rule place h = cc
 
-sorted_no_text : (places : List Place) (statements : List (Tree AStatement)) (found : Option Breach) (refusal : TextRefusal) → then_due (unless_broken places statements found) asked ≡ Err (Text refusal) → ⊥
-sorted_no_text places statements None refusal h = not_text (node_query statements) refusal h
-sorted_no_text places statements (Some breach) refusal h = cc
+sorted_no_text : (places : List Place) (file : QueryFile) (found : Option Breach) (refusal : TextRefusal) → then_due (unless_broken places file found) asked_of ≡ Err (Text refusal) → ⊥
+sorted_no_text places file None refusal h = not_text (node_query file) refusal h
+sorted_no_text places file (Some breach) refusal h = cc
 
 module _ (graphs : List (List ℕ)) where
-  deep_parse : (places : List Place) (r : Result (List (Tree AStatement)) ParseRefusal) (place : Place) → then_due (statements_at graphs places r) asked ≡ Err (Text (TooDeep place))
+  deep_parse : (names : List (List ℕ)) (places : List Place) (r : Result (List (Tree AStatement)) ParseRefusal) (place : Place) → then_due (query_file_at graphs names places r) asked_of ≡ Err (Text (TooDeep place))
       → (k : ℕ) × (r ≡ Err (parse.TooDeep k)) × (token_place places k ≡ place)
-  deep_parse places (Ok statements) place h = absurd (sorted_no_text places statements (first_breach graphs (row statements)) (TooDeep place) h)
-  deep_parse places (Err (parse.TooDeep k)) place h = (k, refl, cc)
-  deep_parse places (Err (parse.Syntax k)) place h = absurd (cc)
-  deep_parse places (Err parse.Memory) place h = absurd (cc)
+  deep_parse names places (Ok statements) place h = absurd (sorted_no_text places (file_over graphs names statements) (first_breach graphs (row statements)) (TooDeep place) h)
+  deep_parse names places (Err (parse.TooDeep k)) place h = (k, refl, cc)
+  deep_parse names places (Err (parse.Syntax k)) place h = absurd (cc)
+  deep_parse names places (Err parse.Memory) place h = absurd (cc)
 
-  refused_parse : (places : List Place) (r : Result (List (Tree AStatement)) ParseRefusal) (place : Place) → then_due (statements_at graphs places r) asked ≡ Err (Text (Syntax place))
+  refused_parse : (names : List (List ℕ)) (places : List Place) (r : Result (List (Tree AStatement)) ParseRefusal) (place : Place) → then_due (query_file_at graphs names places r) asked_of ≡ Err (Text (Syntax place))
       → (k : ℕ) × (r ≡ Err (parse.Syntax k)) × (token_place places k ≡ place)
-  refused_parse places (Ok statements) place h = absurd (sorted_no_text places statements (first_breach graphs (row statements)) (Syntax place) h)
-  refused_parse places (Err (parse.TooDeep k)) place h = absurd (cc)
-  refused_parse places (Err (parse.Syntax k)) place h = (k, refl, cc)
-  refused_parse places (Err parse.Memory) place h = absurd (cc)
+  refused_parse names places (Ok statements) place h = absurd (sorted_no_text places (file_over graphs names statements) (first_breach graphs (row statements)) (Syntax place) h)
+  refused_parse names places (Err (parse.TooDeep k)) place h = absurd (cc)
+  refused_parse names places (Err (parse.Syntax k)) place h = (k, refl, cc)
+  refused_parse names places (Err parse.Memory) place h = absurd (cc)
 
-  breach_of : (places : List Place) (statements : List (Tree AStatement)) (found : Option Breach) (rule : SortRule) (place : Place) → then_due (unless_broken places statements found) asked ≡ Err (Sorts rule place)
+  breach_of : (places : List Place) (file : QueryFile) (found : Option Breach) (rule : SortRule) (place : Place) → then_due (unless_broken places file found) asked_of ≡ Err (Sorts rule place)
       → (breach : Breach) × (found ≡ Some breach) × (rule ≡ breach.rule) × (place ≡ breach_place places breach)
-  breach_of places statements None rule place h = absurd (not_sorts (node_query statements) rule place h)
-  breach_of places statements (Some breach) rule place h = (breach, refl, cc, cc)
+  breach_of places file None rule place h = absurd (not_sorts (node_query file) rule place h)
+  breach_of places file (Some breach) rule place h = (breach, refl, cc, cc)
 
-  broken_parse : (places : List Place) (r : Result (List (Tree AStatement)) ParseRefusal) (rule : SortRule) (place : Place) → then_due (statements_at graphs places r) asked ≡ Err (Sorts rule place)
+  broken_parse : (names : List (List ℕ)) (places : List Place) (r : Result (List (Tree AStatement)) ParseRefusal) (rule : SortRule) (place : Place) → then_due (query_file_at graphs names places r) asked_of ≡ Err (Sorts rule place)
       → (statements : List (Tree AStatement)) × (breach : Breach) × (r ≡ Ok statements) × (first_breach graphs (row statements) ≡ Some breach) × (rule ≡ breach.rule) × (place ≡ breach_place places breach)
-  broken_parse places (Ok statements) rule place h =
-      let found = breach_of places statements (first_breach graphs (row statements)) rule place h in
+  broken_parse names places (Ok statements) rule place h =
+      let found = breach_of places (file_over graphs names statements) (first_breach graphs (row statements)) rule place h in
       (statements, found.0, refl, found.1, found.2, found.3)
-  broken_parse places (Err (parse.TooDeep k)) rule place h = absurd (cc)
-  broken_parse places (Err (parse.Syntax k)) rule place h = absurd (cc)
-  broken_parse places (Err parse.Memory) rule place h = absurd (cc)
+  broken_parse names places (Err (parse.TooDeep k)) rule place h = absurd (cc)
+  broken_parse names places (Err (parse.Syntax k)) rule place h = absurd (cc)
+  broken_parse names places (Err parse.Memory) rule place h = absurd (cc)
 
-  deep_tokens : (l : Result TokenList LexRefusal) (place : Place) → then_due (statements_in graphs l) asked ≡ Err (Text (TooDeep place))
+  deep_tokens : (l : Result TokenList LexRefusal) (place : Place) → then_due (query_file_in graphs l) asked_of ≡ Err (Text (TooDeep place))
       → (list : TokenList) × (l ≡ Ok list) × ((k : ℕ) × (parsed list.tokens ≡ Err (parse.TooDeep k)) × (token_place list.places k ≡ place))
-  deep_tokens (Ok list) place h = (list, refl, deep_parse list.places (parsed list.tokens) place h)
+  deep_tokens (Ok list) place h = (list, refl, deep_parse (names_among list.tokens) list.places (parsed list.tokens) place h)
   deep_tokens (Err (lex.NotUtf8 p)) place h = absurd (cc)
   deep_tokens (Err (lex.BadCharacter p)) place h = absurd (cc)
   deep_tokens (Err (lex.OpenText p)) place h = absurd (cc)
   deep_tokens (Err (lex.NumberTooLarge p)) place h = absurd (cc)
   deep_tokens (Err lex.Memory) place h = absurd (cc)
 
-  refused_tokens : (l : Result TokenList LexRefusal) (place : Place) → then_due (statements_in graphs l) asked ≡ Err (Text (Syntax place))
+  refused_tokens : (l : Result TokenList LexRefusal) (place : Place) → then_due (query_file_in graphs l) asked_of ≡ Err (Text (Syntax place))
       → (list : TokenList) × (l ≡ Ok list) × ((k : ℕ) × (parsed list.tokens ≡ Err (parse.Syntax k)) × (token_place list.places k ≡ place))
-  refused_tokens (Ok list) place h = (list, refl, refused_parse list.places (parsed list.tokens) place h)
+  refused_tokens (Ok list) place h = (list, refl, refused_parse (names_among list.tokens) list.places (parsed list.tokens) place h)
   refused_tokens (Err (lex.NotUtf8 p)) place h = absurd (cc)
   refused_tokens (Err (lex.BadCharacter p)) place h = absurd (cc)
   refused_tokens (Err (lex.OpenText p)) place h = absurd (cc)
   refused_tokens (Err (lex.NumberTooLarge p)) place h = absurd (cc)
   refused_tokens (Err lex.Memory) place h = absurd (cc)
 
-  broken_tokens : (l : Result TokenList LexRefusal) (rule : SortRule) (place : Place) → then_due (statements_in graphs l) asked ≡ Err (Sorts rule place)
+  broken_tokens : (l : Result TokenList LexRefusal) (rule : SortRule) (place : Place) → then_due (query_file_in graphs l) asked_of ≡ Err (Sorts rule place)
       → (list : TokenList) × (statements : List (Tree AStatement)) × (breach : Breach) × (l ≡ Ok list) × (parsed list.tokens ≡ Ok statements) × (first_breach graphs (row statements) ≡ Some breach) × (rule ≡ breach.rule) × (place ≡ breach_place list.places breach)
   broken_tokens (Ok list) rule place h =
-      let found = broken_parse list.places (parsed list.tokens) rule place h in
+      let found = broken_parse (names_among list.tokens) list.places (parsed list.tokens) rule place h in
       (list, found.0, found.1, refl, found.2, found.3, found.4, found.5)
   broken_tokens (Err (lex.NotUtf8 p)) rule place h = absurd (cc)
   broken_tokens (Err (lex.BadCharacter p)) rule place h = absurd (cc)
@@ -100,20 +97,20 @@ module _ (graphs : List (List ℕ)) where
 
   -- the statements that are spelled are tested against the sort rules
   asked_as_sorted : (text : List ℕ) (list : TokenList) (statements : List (Tree AStatement)) → lexed text ≡ Ok list → IsDepthFault list.tokens None → SpellsFile list.tokens statements
-      → query_of graphs text ≡ then_due (sorted_at graphs list.places statements) asked
+      → query_of graphs text ≡ then_due (sorted_at list.places (file_over graphs (names_among list.tokens) statements)) asked_of
   asked_as_sorted text list statements h none spelled =
-      ap (λ l. then_due (statements_in graphs l) asked) h ∙ ap (λ r. then_due (statements_at graphs list.places r) asked) (parsed_spelled list.tokens statements none spelled)
+      ap (λ l. then_due (query_file_in graphs l) asked_of) h ∙ ap (λ r. then_due (query_file_at graphs (names_among list.tokens) list.places r) asked_of) (parsed_spelled list.tokens statements none spelled)
 
   -- the laws of query files
   pub asked_as_spelled : (text : List ℕ) (list : TokenList) (statements : List (Tree AStatement)) → lexed text ≡ Ok list → IsDepthFault list.tokens None → SpellsFile list.tokens statements
-      → first_breach graphs (row statements) ≡ None → query_of graphs text ≡ built (node_query statements)
+      → first_breach graphs (row statements) ≡ None → query_of graphs text ≡ asked_of (file_over graphs (names_among list.tokens) statements)
   asked_as_spelled text list statements h none spelled sorted =
-      asked_as_sorted text list statements h none spelled ∙ ap (λ found. then_due (unless_broken list.places statements found) asked) sorted
+      asked_as_sorted text list statements h none spelled ∙ ap (λ found. then_due (unless_broken list.places (file_over graphs (names_among list.tokens) statements) found) asked_of) sorted
 
   pub told_as_broken : (text : List ℕ) (list : TokenList) (statements : List (Tree AStatement)) (breach : Breach) → lexed text ≡ Ok list → IsDepthFault list.tokens None → SpellsFile list.tokens statements
       → first_breach graphs (row statements) ≡ Some breach → query_of graphs text ≡ Err (Sorts breach.rule (breach_place list.places breach))
   told_as_broken text list statements breach h none spelled broken =
-      asked_as_sorted text list statements h none spelled ∙ ap (λ found. then_due (unless_broken list.places statements found) asked) broken
+      asked_as_sorted text list statements h none spelled ∙ ap (λ found. then_due (unless_broken list.places (file_over graphs (names_among list.tokens) statements) found) asked_of) broken
 
   pub broken_as_told : (text : List ℕ) (rule : SortRule) (place : Place) → query_of graphs text ≡ Err (Sorts rule place)
       → (list : TokenList) × (statements : List (Tree AStatement)) × (breach : Breach) × (lexed text ≡ Ok list) × IsDepthFault list.tokens None × SpellsFile list.tokens statements

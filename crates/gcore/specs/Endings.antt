@@ -62,13 +62,13 @@ WritesText out text (Err stop) = ⊥
 
 -- a request over these graphs was answered: a text that answers it was written, or there is no request, since the query is
 -- not built
-abbrev pub WritesAnswer : List (List ℕ) → List PropertyGraph → Option NodeQuery → Change → Result (Unit {0}) Stop → Type 0
-WritesAnswer names graphs None out (Err NotBuilt) = GainsNothing out
-WritesAnswer names graphs None out (Err OutOfMemory) = GainsNothing out
-WritesAnswer names graphs None out result = ⊥
-WritesAnswer names graphs (Some query) out (Err OutOfMemory) = GainsNothing out
-WritesAnswer names graphs (Some query) out result =
-    (text : List ℕ) × IsTextOf (record { names = names; graphs = graphs; query = query }) text × WritesText out text result
+abbrev pub WritesAnswer : List PropertyGraph → Option NodeQuery → Change → Result (Unit {0}) Stop → Type 0
+WritesAnswer graphs None out (Err NotBuilt) = GainsNothing out
+WritesAnswer graphs None out (Err OutOfMemory) = GainsNothing out
+WritesAnswer graphs None out result = ⊥
+WritesAnswer graphs (Some query) out (Err OutOfMemory) = GainsNothing out
+WritesAnswer graphs (Some query) out result =
+    (text : List ℕ) × IsTextOf (record { graphs = graphs; query = query }) text × WritesText out text result
 
 -- the folder's count of faults rose in the call
 abbrev pub ReadFault : Call → Type 0
@@ -197,6 +197,6 @@ abbrev pub HoldsLines : Option ℕ → Option Command → Type 0
 HoldsLines room command = ForSome room (λ r. (stop : Stop) → MayStop command stop → length (line_of stop) ≤ r)
 
 -- a told room of `out` holds each text that answers a request over these graphs
-abbrev pub HoldsAnswer : Option ℕ → List (List ℕ) → List PropertyGraph → Option NodeQuery → Type 0
-HoldsAnswer room names graphs None = ⊤
-HoldsAnswer room names graphs (Some query) = ForSome room (λ r. (text : List ℕ) → IsTextOf (record { names = names; graphs = graphs; query = query }) text → length text ≤ r)
+abbrev pub HoldsAnswer : Option ℕ → List PropertyGraph → Option NodeQuery → Type 0
+HoldsAnswer room graphs None = ⊤
+HoldsAnswer room graphs (Some query) = ForSome room (λ r. (text : List ℕ) → IsTextOf (record { graphs = graphs; query = query }) text → length text ≤ r)

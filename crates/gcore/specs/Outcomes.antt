@@ -3,14 +3,14 @@ use Rattle.std.specs.Prelude.{◌≡◌, ℕ, List, [], ◌∷◌, ◌++◌, len
 use Rattle.gc_base.specs.Files.{Files, file_of}
 use Rattle.gc_spec.specs.Coherence.{shapes_of}
 use Rattle.gc_spec.specs.PropertyGraph.{PropertyGraph}
-use Rattle.gc_ast.specs.Trees.{Tree, AStatement}
 use Rattle.gc_json.specs.CanonicalText.{canonical_text}
 use Rattle.gc_json.specs.FileElements.{Seen}
 use Rattle.gc_json.specs.GraphFiles.{file_graph}
 use Rattle.gc_json.specs.declared.refusal.GraphRefusal.{GraphRefusal}
+use Rattle.gc_lower.specs.Namings.{QueryFile}
 use Rattle.gc_query.specs.NodeAnswers.{IsTheAnswer}
 use Rattle.gc_query.specs.NodeQueries.{NodeQuery, node_query}
-use Rattle.gcore.specs.QueryFiles.{statements_of}
+use Rattle.gcore.specs.QueryFiles.{query_file_of}
 use Rattle.gcore.specs.declared.command.Command.{Command}
 use Rattle.gcore.specs.declared.command.Command.TheVariants.{Run, Cert, Explain, Check, Make}
 use Rattle.gcore.specs.declared.command.CommandRefusal.{CommandRefusal}
@@ -59,13 +59,17 @@ abbrev pub built : {A : Type 0} → Option A → Result A Stop
 built None = Err NotBuilt
 built (Some x) = Ok x
 
+-- what a query file asks for
+abbrev pub asked_of : QueryFile → Result NodeQuery Stop
+asked_of file = built (node_query file)
+
 -- what the bytes of a query file ask for, over graphs of these names
 abbrev pub query_of : List (List ℕ) → List ℕ → Result NodeQuery Stop
-query_of graphs bytes = then_due (statements_of graphs bytes) (λ statements. built (node_query statements))
+query_of graphs bytes = then_due (query_file_of graphs bytes) asked_of
 
--- the statements of a query file
-abbrev pub statements_due : List (List ℕ) → Files → List ℕ → Result (List (Tree AStatement)) Stop
-statements_due graphs files name = then_due (file_due files name query_limit) (statements_of graphs)
+-- a query file that is read
+abbrev pub query_file_due : List (List ℕ) → Files → List ℕ → Result QueryFile Stop
+query_file_due graphs files name = then_due (file_due files name query_limit) (query_file_of graphs)
 
 -- what a query file asks for
 abbrev pub query_due : List (List ℕ) → Files → List ℕ → Result NodeQuery Stop
@@ -75,14 +79,13 @@ query_due graphs files name = then_due (file_due files name query_limit) (query_
 abbrev pub graph_names : List Pair → List (List ℕ)
 graph_names pairs = map (λ (p : Pair). p.name) pairs
 
--- what a run is asked: the names of the graphs, the graphs, and the query
+-- what a run is asked: the graphs, and the query
 pub record Request : Type 0 where
-  pub names : List (List ℕ)
   pub graphs : List PropertyGraph
   pub query : NodeQuery
 
-abbrev pub request : List (List ℕ) → List PropertyGraph → NodeQuery → Result Request Stop
-request names graphs query = Ok (record { names = names; graphs = graphs; query = query })
+abbrev pub request : List PropertyGraph → NodeQuery → Result Request Stop
+request graphs query = Ok (record { graphs = graphs; query = query })
 
 -- the text of a graph, and a line feed
 unfoldable pub printed : PropertyGraph → List ℕ
@@ -91,13 +94,13 @@ printed g = canonical_text g ++ 10 ∷ []
 -- the text that answers a request is that of the graph that does, which is the only one
 pub record IsTextOf (r : Request) (text : List ℕ) : Type 0 where
   pub graph : PropertyGraph
-  pub answer : IsTheAnswer r.names r.graphs r.query graph
+  pub answer : IsTheAnswer r.graphs r.query graph
   pub written : text ≡ printed graph
 
 -- first the graph files, then the query file
 abbrev pub run_due : Files → List ℕ → List Pair → Result Request Stop
 run_due files query pairs =
-    then_due (graphs_due files [] pairs) (λ gs. then_due (query_due (graph_names pairs) files query) (request (graph_names pairs) gs))
+    then_due (graphs_due files [] pairs) (λ gs. then_due (query_due (graph_names pairs) files query) (request gs))
 
 -- what a command is asked; those that are not built yet stop directly
 abbrev pub command_due : Files → Command → Result Request Stop

@@ -1,15 +1,16 @@
--- The statements of a query file, by its bytes and the names of the graphs, or what is wrong with it first.
+-- What a query file says, by its bytes and the names of the graphs, or what is wrong with it first.
 use Rattle.std.specs.Prelude.{◌≡◌, ℕ, List, [], ◌∷◌, slice_get, Option, Some, None, Result, Ok, Err, ⊤}
 use Rattle.std.specs.Option.{unwrap_or}
 use Rattle.gc_base.specs.declared.place.Place.{Place}
 use Rattle.gc_lex.specs.declared.refusal.LexRefusal.{LexRefusal}
 use Rattle.gc_lex.specs.declared.refusal.LexRefusal.TheVariants as lex
 use Rattle.gc_lex.specs.Lexis.{TokenList, lexed}
-use Rattle.gc_ast.specs.QueryViews.{file_trees}
 use Rattle.gc_ast.specs.Trees.{Tree, AStatement, row}
 use Rattle.gc_parse.specs.declared.refusal.ParseRefusal.{ParseRefusal}
 use Rattle.gc_parse.specs.declared.refusal.ParseRefusal.TheVariants as parse
+use Rattle.gc_lower.specs.Namings.{QueryFile, file_of}
 use Rattle.gc_parse.specs.Parses.{parsed}
+use Rattle.gc_parse_source.specs.Sources.{names_among}
 use Rattle.gc_sorts.specs.declared.breach.Breach.{Breach}
 use Rattle.gc_sorts.specs.declared.checked.Checked.{Checked}
 use Rattle.gc_sorts.specs.SortRules.{first_breach}
@@ -49,33 +50,36 @@ stop_of_parse places (parse.TooDeep k) = Text (TooDeep (token_place places k))
 stop_of_parse places (parse.Syntax k) = Text (Syntax (token_place places k))
 stop_of_parse places parse.Memory = OutOfMemory
 
--- statements of tokens at these places, where they break no sort rule, or their first breach
-abbrev pub unless_broken : List Place → List (Tree AStatement) → Option Breach → Result (List (Tree AStatement)) Stop
-unless_broken places statements None = Ok statements
-unless_broken places statements (Some breach) = Err (Sorts breach.rule (breach_place places breach))
+-- a query file of tokens at these places, where it breaks no sort rule, or its first breach
+abbrev pub unless_broken : List Place → QueryFile → Option Breach → Result QueryFile Stop
+unless_broken places file None = Ok file
+unless_broken places file (Some breach) = Err (Sorts breach.rule (breach_place places breach))
 
--- statements of tokens at these places, over graphs of these names
-abbrev pub sorted_at : List (List ℕ) → List Place → List (Tree AStatement) → Result (List (Tree AStatement)) Stop
-sorted_at graphs places statements = unless_broken places statements (first_breach graphs (row statements))
+abbrev pub sorted_at : List Place → QueryFile → Result QueryFile Stop
+sorted_at places file = unless_broken places file (first_breach file.graphs (row file.statements))
+
+-- statements over graphs of these names, with the names among their tokens
+abbrev pub file_over : (graphs names : List (List ℕ)) → List (Tree AStatement) → QueryFile
+file_over graphs names statements = record { graphs = graphs; names = names; statements = statements }
 
 -- what a parse of tokens at these places gives, over graphs of these names
-abbrev pub statements_at : List (List ℕ) → List Place → Result (List (Tree AStatement)) ParseRefusal → Result (List (Tree AStatement)) Stop
-statements_at graphs places (Ok statements) = sorted_at graphs places statements
-statements_at graphs places (Err refusal) = Err (stop_of_parse places refusal)
+abbrev pub query_file_at : (graphs names : List (List ℕ)) → List Place → Result (List (Tree AStatement)) ParseRefusal → Result QueryFile Stop
+query_file_at graphs names places (Ok statements) = sorted_at places (file_over graphs names statements)
+query_file_at graphs names places (Err refusal) = Err (stop_of_parse places refusal)
 
--- the statements of the tokens of a text, if it has tokens
-abbrev pub statements_in : List (List ℕ) → Result TokenList LexRefusal → Result (List (Tree AStatement)) Stop
-statements_in graphs (Ok list) = statements_at graphs list.places (parsed list.tokens)
-statements_in graphs (Err refusal) = Err (stop_of_lex refusal)
+-- the query file of the tokens of a text, if it has tokens
+abbrev pub query_file_in : List (List ℕ) → Result TokenList LexRefusal → Result QueryFile Stop
+query_file_in graphs (Ok list) = query_file_at graphs (names_among list.tokens) list.places (parsed list.tokens)
+query_file_in graphs (Err refusal) = Err (stop_of_lex refusal)
 
--- the statements of a text over graphs of these names: it has to have tokens, they have to be those of a
--- query file, and this may break no sort rule
-abbrev pub statements_of : List (List ℕ) → List ℕ → Result (List (Tree AStatement)) Stop
-statements_of graphs text = statements_in graphs (lexed text)
+-- the query file of a text over graphs of these names: it has to have tokens, they have to be those of a query file, and this
+-- may break no sort rule
+abbrev pub query_file_of : List (List ℕ) → List ℕ → Result QueryFile Stop
+query_file_of graphs text = query_file_in graphs (lexed text)
 
--- the file of the statements that are due is given, or the refusal that is due is told; want of memory is free
-abbrev pub IsFileOf : Result (List (Tree AStatement)) Stop → Result Checked Stop → Type 0
-IsFileOf due (Ok checked) = due ≡ Ok (file_trees checked.file)
+-- the query file that is due is given, or the refusal that is due is told; want of memory is free
+abbrev pub IsFileOf : Result QueryFile Stop → Result Checked Stop → Type 0
+IsFileOf due (Ok checked) = due ≡ Ok (file_of checked)
 IsFileOf due (Err (Text refusal)) = due ≡ Err (Text refusal)
 IsFileOf due (Err (Sorts rule place)) = due ≡ Err (Sorts rule place)
 IsFileOf due (Err OutOfMemory) = ⊤

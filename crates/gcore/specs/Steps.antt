@@ -2,8 +2,7 @@
 use Rattle.std.specs.Prelude.{◌≡◌, ℕ, List, Option, Result, Ok, Err, IfSome, MatchOption, ⊤, ◌⊎◌}
 use Rattle.gc_base.specs.Faults.{Rose}
 use Rattle.gc_base.specs.Files.{Files}
-use Rattle.gc_ast.specs.QueryViews.{file_trees}
-use Rattle.gc_ast.specs.Trees.{Tree, AStatement}
+use Rattle.gc_lower.specs.Namings.{QueryFile, file_of}
 use Rattle.gc_sorts.specs.declared.checked.Checked.{Checked}
 use Rattle.gcore.specs.declared.stop.Stop.{Stop}
 use Rattle.gcore.specs.declared.stop.Stop.TheVariants.{Usage, Unread, TooLarge, Refused, Text, Sorts, NotBuilt, Unwritten, OutOfMemory}
@@ -52,7 +51,7 @@ StopsReadingQuery reading name due (Text refusal) = IfSome reading.files (λ fil
 StopsReadingQuery reading name due (Sorts rule place) = IfSome reading.files (λ files. due files ≡ Err (Sorts rule place))
 StopsReadingQuery reading name due stop = StopsReading reading name due stop
 
--- a file of the statements that are due is given, or a stop
-abbrev pub ReadsQuery : Reading → List ℕ → (Files → Result (List (Tree AStatement)) Stop) → Result Checked Stop → Type 0
-ReadsQuery reading name due (Ok checked) = IfSome reading.files (λ files. due files ≡ Ok (file_trees checked.file))
+-- the query file that is due is given, or a stop
+abbrev pub ReadsQuery : Reading → List ℕ → (Files → Result QueryFile Stop) → Result Checked Stop → Type 0
+ReadsQuery reading name due (Ok checked) = IfSome reading.files (λ files. due files ≡ Ok (file_of checked))
 ReadsQuery reading name due (Err stop) = StopsReadingQuery reading name due stop

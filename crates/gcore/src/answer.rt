@@ -1,6 +1,6 @@
 ghost use Rattle.std.specs.Prelude.{◌≡◌, true, Some, length, IfOk};
 ghost use Rattle.gc_base.specs.Sinks.{HasRoom};
-ghost use Rattle.gc_ast.specs.QueryViews.{file_trees};
+ghost use Rattle.gc_lower.specs.Namings.{file_of};
 ghost use Rattle.gc_query.specs.NodeQueries.{node_query};
 ghost use Rattle.gcore.specs.Outcomes.{printed};
 ghost use Rattle.gcore.specs.Pairs.{are_graphs};
@@ -13,12 +13,12 @@ use crate::graphs::read_graphs;
 use crate::inputs::read_query;
 use crate::pair::{Pair, names_of};
 use crate::stop::Stop;
-use gc_ast::File;
-use gc_base::{Bytes, Memory, NameList, Steps, Str};
+use gc_base::{Bytes, Memory, Steps, Str};
 use gc_io::{Folder, Sink, SinkFault, write_whole};
 use gc_json::print;
 use gc_ppg::{Graph, GraphList};
 use gc_query::answer;
+use gc_sorts::Checked;
 use std::alloc::Global;
 use std::mem::ManuallyDrop;
 use std::sync::ledger::Ledger;
@@ -96,26 +96,25 @@ fn run_query<F: Folder, S: Sink, L: Ledger>(
     let catalog = read_graphs(alloc, folder, pairs)?;
     let names = names_of(alloc, pairs)?;
     let checked = read_query(alloc, folder, query, &names)?;
-    let written = write_answer(alloc, checked.file(), &names, catalog.graphs(), out, steps);
+    let written = write_answer(alloc, &checked, catalog.graphs(), out, steps);
     // The program ends with the answer, and the system takes the memory of the graphs back whole.
     let _kept = ManuallyDrop::new(catalog);
     written
 }
 
-// Writes what a query file asks for over graphs of these names, if it is built.
+// Writes what a query file asks for over graphs, if it is built.
 fn write_answer<S: Sink, L: Ledger>(
     alloc: Global,
-    file: &File,
-    names: &NameList,
+    checked: &Checked,
     graphs: &GraphList,
     out: &mut S,
     steps: &mut Steps<L>,
 ) -> Result<(), Stop>
-    requires { HoldsAnswer (S.room out.old) names.now graphs.now (node_query (file_trees file.now)) }
-    ensures { WritesAnswer names.now graphs.now (node_query (file_trees file.now))
+    requires { HoldsAnswer (S.room out.old) graphs.now (node_query (file_of checked.now)) }
+    ensures { WritesAnswer graphs.now (node_query (file_of checked.now))
         (record { faults_before = S.faults out.old; faults_after = S.faults out.new; taken_before = S.taken out.old; taken_after = S.taken out.new }) result }
 {
-    match answer(alloc, file, names, graphs, steps) {
+    match answer(alloc, checked, graphs, steps) {
         Ok(Some(graph)) => write_graph(alloc, &graph, out, steps),
         Ok(None) => Err(Stop::NotBuilt),
         Err(Memory) => Err(Stop::OutOfMemory),

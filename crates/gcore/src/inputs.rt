@@ -1,7 +1,7 @@
 ghost use Rattle.std.specs.Prelude.{◌≡◌, ◌≤◌, true, IfOk};
 ghost use Rattle.gc_json.specs.GraphFiles.{file_graph};
 ghost use Rattle.gc_ppg.specs.Shapes.{graph_agrees};
-ghost use Rattle.gcore.specs.Outcomes.{accepted, file_due, graph_due, statements_due};
+ghost use Rattle.gcore.specs.Outcomes.{accepted, file_due, graph_due, query_file_due};
 ghost use Rattle.gcore.specs.Steps.{Accepts, Reads, ReadsGraph, ReadsQuery, Reading};
 
 use crate::query_file::query_file;
@@ -56,7 +56,7 @@ pub fn read_query<F: Folder>(
     graphs: &NameList,
 ) -> Result<Checked, Stop>
     ensures outcome { ReadsQuery (record { files = F.files folder.old; faults_before = F.faults folder.old; faults_after = F.faults folder.new })
-        name.now (λ files. statements_due graphs.now files name.now) result }
+        name.now (λ files. query_file_due graphs.now files name.now) result }
     ensures later { F.faults folder.old ≤ F.faults folder.new }
     ensures kept { F.files folder.new ≡ F.files folder.old }
 {

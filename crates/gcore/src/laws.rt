@@ -8,9 +8,9 @@ ghost use Rattle.gc_parse_readers.specs.Refusals.{IsRefusedAt};
 ghost use Rattle.gc_sorts.specs.declared.breach.Breach.{Breach};
 ghost use Rattle.gc_sorts.specs.declared.breach.SortRule.{SortRule};
 ghost use Rattle.gc_sorts.specs.SortRules.{first_breach};
-ghost use Rattle.gcore.specs.Outcomes.{built, query_of};
-ghost use Rattle.gcore.specs.QueryFiles.{breach_place};
-ghost use Rattle.gc_query.specs.NodeQueries.{node_query};
+ghost use Rattle.gc_parse_source.specs.Sources.{names_among};
+ghost use Rattle.gcore.specs.Outcomes.{asked_of, query_of};
+ghost use Rattle.gcore.specs.QueryFiles.{breach_place, file_over};
 ghost use Rattle.gcore.specs.declared.stop.Stop.TheVariants.{Sorts, Text};
 ghost use Rattle.gcore.specs.declared.text_refusal.TextRefusal.TheVariants.{TooDeep, Syntax};
 
@@ -21,7 +21,7 @@ ghost use Rattle.gcore.specs.declared.text_refusal.TextRefusal.TheVariants.{TooD
 pub fn a_query_file_asks_what_its_tokens_spell()
     ensures spelled { (graphs : List (List ℕ)) (text : List ℕ) (list : TokenList) (statements : List (Tree AStatement)) → lexed text ≡ Ok list
         → IsDepthFault list.tokens None → SpellsFile list.tokens statements → first_breach graphs (row statements) ≡ None → query_of graphs text
-        ≡ built (node_query statements) }
+        ≡ asked_of (file_over graphs (names_among list.tokens) statements) }
     ensures broken { (graphs : List (List ℕ)) (text : List ℕ) (list : TokenList) (statements : List (Tree AStatement)) (breach : Breach) → lexed text
         ≡ Ok list → IsDepthFault list.tokens None → SpellsFile list.tokens statements → first_breach graphs (row statements) ≡ Some breach
         → query_of graphs text ≡ Err (Sorts breach.rule (breach_place list.places breach)) }

@@ -128,6 +128,20 @@ $ run q g=a h=a
 a: «labels»
 q: CONSTRUCT (n) MATCH (n:City) ON g, (n) ON h
 = 0 {"edges":[],"gcore":1,"nodes":[{"id":2,"labels":["City"],"properties":{}}],"paths":[]}
+
+one-name-on-two-graphs-is-read-in-the-first
+$ run q S=s T=t
+q: CONSTRUCT (n) MATCH (n) ON S, (n) ON T
+s: «S»
+t: {"gcore":1,"nodes":[{"id":2},{"id":9}]}
+= 0 {"edges":[],"gcore":1,"nodes":[«N2»],"paths":[]}
+
+one-name-on-two-graphs-turned
+$ run q S=s T=t
+q: CONSTRUCT (n) MATCH (n) ON T, (n) ON S
+s: «S»
+t: {"gcore":1,"nodes":[{"id":2},{"id":9}]}
+= 0 {"edges":[],"gcore":1,"nodes":[{"id":2,"labels":[],"properties":{}}],"paths":[]}
 "##;
 
 #[test]

@@ -1,17 +1,14 @@
-use Rattle.std.proofs.Common.{None, Some, rules, subst, sym}
-use Rattle.std.specs.Prelude.{IfOk}
-use Rattle.gc_query.specs.NodeAnswers.{IsAnswering}
-use Rattle.gc_query.proofs.AnswerLaws.{unanswered, with_optionals_none, without_optionals_asks}
+use Rattle.std.proofs.Common.{ap}
+use Rattle.gc_exec.proofs.Outcomes.{if_ok}
+use Rattle.gc_query.proofs.AnswerLaws.{named, unnamed}
 use Rattle.gc_query.proofs.answers.basic_answer.Goals as goal
 
-pub returns-then-not-is_nil : goal.returns-then-not-is_nil
-returns-then-not-is_nil g c = unanswered _ _ _ (with_optionals_none c.args.table.now c.args.basic.now (search rules))
+pub returns-in_default : goal.returns-in_default
+returns-in_default g c =
+    unnamed c.args.session.now.checked.now c.args.basic.now c.args.session.now.graphs.now c.in_ok-syms.field-0 c.deref.result.now c.deref.ensures.value c.in_ok-syms.ensures c.in_default.is
 
-pub returns-in-Some : goal.returns-in-Some
-returns-in-Some g c =
-    subst (λ q. IfOk c.block_answer.result (IsAnswering c.args.session.now.names.now c.args.session.now.graphs.now q))
-    (sym (without_optionals_asks c.args.table.now c.args.basic.now (Some c.in-Some.vars) (search rules) (search rules)))
-    (search rules)
-
-pub returns-in-None : goal.returns-in-None
-returns-in-None g c = unanswered _ _ _ (without_optionals_asks c.args.table.now c.args.basic.now None (search rules) (search rules))
+pub returns : goal.returns
+returns g c =
+    if_ok _ _ (λ found answers. named c.args.session.now.checked.now c.args.basic.now c.args.session.now.graphs.now c.in_ok-syms.field-0 c.deref.result.now c.deref.ensures.value c.in_ok-syms.ensures
+    c.in-Some.syms c.in-Some.is c.file.result.now.names (ap (λ f. f.names) c.file.ensures.file) c.deref-2.result.now c.deref-2.ensures.value _ c.in_ok-vars.ensures
+    _ c.in_ok-lowered.ensures.is_block _ c.deref-3.ensures.value found answers) c.block_answer.result c.block_answer.ensures

@@ -1,23 +1,22 @@
 use Rattle.std.proofs.Common.{◌≡◌, ℕ, List, Option, None, Some, Result, Ok, Err, ap, ◌∙◌, subst, IfSome}
 use Rattle.gc_base.specs.Files.{Files}
-use Rattle.gc_ast.specs.QueryViews.{file_trees}
-use Rattle.gc_ast.specs.Trees.{Tree, AStatement}
+use Rattle.gc_lower.specs.Namings.{QueryFile, file_of}
 use Rattle.gc_sorts.specs.declared.checked.Checked.{Checked}
-use Rattle.gcore.specs.Outcomes.{then_due, file_due, statements_due, query_limit}
-use Rattle.gcore.specs.QueryFiles.{IsFileOf, statements_of}
+use Rattle.gcore.specs.Outcomes.{then_due, file_due, query_file_due, query_limit}
+use Rattle.gcore.specs.QueryFiles.{IsFileOf, query_file_of}
 use Rattle.gcore.specs.Steps.{ReadsQuery}
 use Rattle.gcore.specs.declared.stop.Stop.{Stop}
 use Rattle.gcore.specs.declared.stop.Stop.TheVariants.{Usage, Unread, TooLarge, Refused, Text, Sorts, NotBuilt, Unwritten, OutOfMemory}
 use Rattle.gcore.proofs.inputs.read_query.Goals as goal
 
 -- a file that was read, and what is due of its bytes
-due_of : (graphs : List (List ℕ)) (files : Files) (name bytes : List ℕ) (due : Result (List (Tree AStatement)) Stop) → file_due files name query_limit ≡ Ok bytes → statements_of graphs bytes ≡ due → statements_due graphs files name ≡ due
-due_of graphs files name bytes due f h = ap (λ d. then_due d (statements_of graphs)) f ∙ h
+due_of : (graphs : List (List ℕ)) (files : Files) (name bytes : List ℕ) (due : Result QueryFile Stop) → file_due files name query_limit ≡ Ok bytes → query_file_of graphs bytes ≡ due → query_file_due graphs files name ≡ due
+due_of graphs files name bytes due f h = ap (λ d. then_due d (query_file_of graphs)) f ∙ h
 
 read_file_of : (graphs : List (List ℕ)) (told : Option Files) (before after : ℕ) (name bytes : List ℕ) (r : Result Checked Stop) → IfSome told (λ files. file_due files name query_limit ≡ Ok bytes)
-    → IsFileOf (statements_of graphs bytes) r → ReadsQuery (record { files = told; faults_before = before; faults_after = after }) name (λ files. statements_due graphs files name) r
+    → IsFileOf (query_file_of graphs bytes) r → ReadsQuery (record { files = told; faults_before = before; faults_after = after }) name (λ files. query_file_due graphs files name) r
 read_file_of graphs None before after name bytes (Ok checked) f h = tt
-read_file_of graphs (Some files) before after name bytes (Ok checked) f h = due_of graphs files name bytes (Ok (file_trees checked.file)) f h
+read_file_of graphs (Some files) before after name bytes (Ok checked) f h = due_of graphs files name bytes (Ok (file_of checked)) f h
 read_file_of graphs None before after name bytes (Err (Text refusal)) f h = tt
 read_file_of graphs (Some files) before after name bytes (Err (Text refusal)) f h = due_of graphs files name bytes (Err (Text refusal)) f h
 read_file_of graphs None before after name bytes (Err (Sorts rule place)) f h = tt
@@ -33,4 +32,4 @@ read_file_of graphs told before after name bytes (Err Unwritten) f h = absurd h
 pub returns-clause-outcome : goal.returns-clause-outcome
 returns-clause-outcome g c =
     read_file_of c.args.graphs.now (g.F.Folder.files c.args.folder.now) (g.F.Folder.faults c.args.folder.now) (g.F.Folder.faults c.read_file.new.folder) c.args.name.now c.in_ok-bytes.bytes c.query_file.result
-    c.in_ok-bytes.ensures.outcome (subst (λ (bytes : List ℕ). IsFileOf (statements_of c.args.graphs.now bytes) c.query_file.result) c.as_slice.ensures c.query_file.ensures)
+    c.in_ok-bytes.ensures.outcome (subst (λ (bytes : List ℕ). IsFileOf (query_file_of c.args.graphs.now bytes) c.query_file.result) c.as_slice.ensures c.query_file.ensures)
