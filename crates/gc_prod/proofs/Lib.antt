@@ -1,0 +1,10 @@
+pub mod BundleLaws
+pub mod FanLaws
+pub mod GoesLaws
+pub mod HopCounts
+pub mod HopLists
+pub mod KeyRuns
+pub mod LeadLaws
+pub mod Members
+pub mod MoveLaws
+pub mod Networks

@@ -1,0 +1,74 @@
+-- What a product keeps, so that the moves of a pair are found at once.
+use Rattle.std.specs.Prelude.{◌≡◌, ℕ, ◌<◌, ◌≤◌, Bool, true, false, List, [], map, length, slice_get, Option, Some, nat_eq}
+use Rattle.std.specs.List.{AllByRecursion}
+use Rattle.std.specs.Option.{option_map, option_map_or}
+use Rattle.std.specs.Cmp.Lexicographic.{pointwise}
+use Rattle.gc_spec.specs.PropertyGraph.{IsGraph, node_ids}
+use Rattle.gc_automata.specs.Moves.{Network}
+use Rattle.gc_automata.specs.declared.transition.Transition.{Transition}
+use Rattle.gc_automata.specs.declared.transition.On.{On}
+use Rattle.gc_automata.specs.declared.transition.On.TheVariants.{Empty, Label, Back, Any, AnyBack, Test, View}
+use Rattle.gc_prod.specs.declared.moves.Hop.{Hop}
+use Rattle.gc_prod.specs.declared.preparing.Fan.{Fan}
+use Rattle.gc_prod.specs.declared.preparing.Leg.{Leg}
+use Rattle.gc_prod.specs.Keys.{at_key}
+use Rattle.gc_prod.specs.Products.{Setting, Bundle, bundles}
+use Rattle.gc_prod.specs.Segments.{AreSegments}
+use Rattle.gc_prod.specs.SymbolHops.{hops}
+
+-- whether two symbols are the same
+abbrev pub same_symbol : On → On → Bool
+same_symbol Empty Empty = true
+same_symbol (Label l) (Label k) = pointwise nat_eq l k
+same_symbol (Back l) (Back k) = pointwise nat_eq l k
+same_symbol Any Any = true
+same_symbol AnyBack AnyBack = true
+same_symbol (Test l) (Test k) = pointwise nat_eq l k
+same_symbol (View v) (View w) = pointwise nat_eq v w
+same_symbol a b = false
+
+-- the symbol of the transition of a number
+abbrev pub symbol_at : List Transition → ℕ → Option On
+symbol_at transitions i = option_map (λ t. t.on) (slice_get transitions i)
+
+-- whether a fan is that of a symbol
+abbrev pub is_fan_of : List Transition → On → Fan → Bool
+is_fan_of transitions on fan = option_map_or (same_symbol on) (symbol_at transitions fan.symbol) false
+
+-- these are the hops along a symbol, from each node in their order
+abbrev pub AreHopsOf : Network → On → List Hop → Type 0
+AreHopsOf network on kept = (node : ℕ) → at_key (λ h. h.from) node kept ≡ at_key (λ h. h.from) node (hops network on)
+
+-- a fan has the hops along the symbol of its transition
+abbrev pub IsFan : Network → List Transition → Fan → Type 0
+IsFan network transitions fan = (on : On) → symbol_at transitions fan.symbol ≡ Some on → AreHopsOf network on fan.hops
+
+-- the hops of the fan of a number
+abbrev pub fan_at : List Fan → ℕ → List Hop
+fan_at fans i = option_map_or (λ fan. fan.hops) (slice_get fans i) []
+
+-- there is a fan of the symbol at this number, and the fans before are as they were
+pub record HasFan (network : Network) (transitions : List Transition) (on : On) (before after : List Fan) (i : ℕ) : Type 0 where
+  pub within : i < length after
+  pub right : AreHopsOf network on (fan_at after i)
+  pub grows : length before ≤ length after
+  pub kept : (j : ℕ) → j < length before → slice_get after j ≡ slice_get before j
+  pub fans : AllByRecursion (IsFan network transitions) after
+
+-- the hops from a node along a leg
+abbrev pub leg_bundle : List Fan → ℕ → Leg → Bundle
+leg_bundle fans node leg = record { state = leg.to; hops = at_key (λ h. h.from) node (fan_at fans leg.fan) }
+
+-- the hops from a node along the legs that leave a state
+abbrev pub leg_bundles : List Fan → List Leg → ℕ → ℕ → List Bundle
+leg_bundles fans legs node state = map (leg_bundle fans node) (at_key (λ leg. leg.from) state legs)
+
+-- what a product keeps is right
+pub record IsPrepared (setting : Setting) (nodes : List ℕ) (legs : List Leg) (fans : List Fan) (width : ℕ) : Type 0 where
+  pub graph : IsGraph setting.network.graph
+  pub segments : AreSegments setting.network.graph setting.network.segments
+  pub ids : nodes ≡ node_ids setting.network.graph.nodes
+  pub led : (node state : ℕ) → leg_bundles fans legs node state ≡ bundles setting node state
+  pub states : setting.machine.states ≤ width
+  pub some : 0 < width
+  pub above : AllByRecursion (λ leg. leg.to < width) legs

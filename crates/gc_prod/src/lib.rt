@@ -1,0 +1,18 @@
+//! A graph times an automaton, in which walks are looked for: pairs of a node and a state, and the
+//! moves between them. Others rely on this: the moves of a pair are a list by definition, and are
+//! handed out one by one in its order. This crate knows of no query and of no search.
+#![tactic(auto)]
+
+mod hop_lists;
+mod keyed;
+mod laws;
+mod moves;
+mod preparing;
+mod product;
+mod segment;
+
+pub use keyed::{ByKey, Keyed};
+pub use laws::moves_make_the_runs;
+pub use moves::{By, Hop, Move, Pair, Run, RunMove};
+pub use product::{Bundle, Product};
+pub use segment::{Segment, SegmentList, SegmentTable, SegmentsOn};

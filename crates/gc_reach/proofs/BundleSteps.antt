@@ -1,0 +1,28 @@
+-- Going from bundle to bundle.
+use Rattle.std.proofs.Common.{◌≡◌, ℕ, ◌+◌, List, ◌++◌, map, length, drop, Some, sym, ap, ◌∙◌, length-append}
+use Rattle.std.specs.List.{flat_map, slice_get}
+use Rattle.std.proofs.lemmas.List.{length-map, map-append}
+use Rattle.std.proofs.lemmas.List.Sums.{fold-append}
+use Rattle.gc_prod.specs.declared.moves.Move.{Move}
+use Rattle.gc_prod.specs.declared.moves.Pair.{Pair}
+use Rattle.gc_prod.specs.Leading.{target_of}
+use Rattle.gc_prod.specs.Products.{Bundle, moved, moves_by}
+use Rattle.gc_prod.proofs.HopLists.{left_at}
+use Rattle.gc_reach.specs.Exploring.{targets_by}
+use Rattle.gc_reach.specs.Marking.{visit, visit_all}
+
+abbrev pub moves_from : List Bundle → ℕ → List Move
+moves_from bs j = flat_map moves_by (drop j bs)
+
+module _ (bs : List Bundle) (j : ℕ) (b : Bundle) (at : slice_get bs j ≡ Some b) where
+  -- what is left are the moves of one more bundle, and those behind it
+  one_off : moves_from bs j ≡ moves_by b ++ moves_from bs (j + 1)
+  one_off = ap (flat_map moves_by) (left_at bs j b at)
+
+  pub moves_left : length (moves_from bs j) ≡ length b.hops + length (moves_from bs (j + 1))
+  moves_left = ap length one_off ∙ (length-append (moves_by b) (moves_from bs (j + 1)) ∙ ap (λ n. n + length (moves_from bs (j + 1))) (length-map b.hops (moved b.state)))
+
+  pub visits_left : (pairs : List Pair) → visit_all (visit_all pairs (targets_by b)) (map target_of (moves_from bs (j + 1))) ≡ visit_all pairs (map target_of (moves_from bs j))
+  visits_left pairs =
+      sym (fold-append visit pairs (targets_by b) (map target_of (moves_from bs (j + 1))))
+      ∙ ap (visit_all pairs) (sym (map-append target_of (moves_by b) (moves_from bs (j + 1))) ∙ ap (map target_of) (sym one_off))

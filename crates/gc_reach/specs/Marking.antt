@@ -1,0 +1,35 @@
+-- Pairs that are marked, in the order of their marking.
+use Rattle.std.specs.Prelude.{◌≡◌, ℕ, ◌+◌, ◌*◌, ◌<◌, Bool, false, not, ◌&&◌, ◌==◌, List, [], ◌∷◌, ◌++◌, length, count_by, slice_index_or, if◌then◌else◌}
+use Rattle.std.specs.List.{list_any, fold}
+use Rattle.std.specs.Ordering.{nat_cmp}
+use Rattle.gc_base.specs.Ascending.{Ascends}
+use Rattle.gc_prod.specs.declared.moves.Pair.{Pair}
+use Rattle.gc_prod.specs.Leading.{pair}
+
+abbrev pub same_pair : Pair → Pair → Bool
+same_pair p q = (p.node == q.node) && (p.state == q.state)
+
+-- whether a pair is among some
+abbrev pub has_pair : List Pair → Pair → Bool
+has_pair pairs p = list_any (λ q. same_pair q p) pairs
+
+-- a pair goes behind the others where it is not among them
+abbrev pub visit : List Pair → Pair → List Pair
+visit pairs p = if has_pair pairs p then pairs else pairs ++ p ∷ []
+
+abbrev pub visit_all : List Pair → List Pair → List Pair
+visit_all pairs more = fold visit pairs more
+
+-- what is marked: pairs of nodes of a list and states below a number
+pub record Marking : Type 0 where
+  pub nodes : List ℕ
+  pub width : ℕ
+  pub pairs : List Pair
+
+-- there is a mark for each node and state, which says whether the pair is marked
+pub record IsMarked (m : Marking) (marked : List Bool) : Type 0 where
+  pub ascend : Ascends nat_cmp m.nodes
+  pub size : length marked ≡ length m.nodes * m.width
+  pub exact : (place state : ℕ) → place < length m.nodes → state < m.width
+      → slice_index_or marked (place * m.width + state) false ≡ has_pair m.pairs (pair (slice_index_or m.nodes place 0) state)
+  pub room : length m.pairs + count_by not marked ≡ length marked
