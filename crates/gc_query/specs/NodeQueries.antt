@@ -77,11 +77,12 @@ node_variable (atom.All x p y regex views) = []
 abbrev pub node_variables : Tree ABlock → List Sym
 node_variables block = flat_map (λ a. node_variable a.what) (block_atoms block)
 
--- whether a block has one part, whose conditions have no EXISTS queries: others are not built yet
+-- whether a conjunct has no EXISTS query
 abbrev pub has_no_query : Tree AConjunct → Bool
 has_no_query (ConjunctOf condition none) = true
 has_no_query (ConjunctOf condition (more query queries)) = false
 
+-- whether a block has one part, whose conjuncts have no EXISTS queries: others are not built yet
 abbrev pub is_plain_if : Option (Tree APart) → Bool
 is_plain_if None = false
 is_plain_if (Some part) = list_all has_no_query (items (conjuncts_of part))
