@@ -1,5 +1,5 @@
 -- Graphs with names, and the first identity that is free.
-use Rattle.std.specs.Prelude.{◌≡◌, ℕ, ◌<◌, ◌≤◌, false, Bool, List, [], ◌∷◌, ◌++◌, length, Option, position, nat_eq, ⊤}
+use Rattle.std.specs.Prelude.{◌≡◌, ℕ, ◌<◌, ◌≤◌, false, Bool, List, [], ◌∷◌, ◌++◌, length, take, Option, position, nat_eq, ⊤}
 use Rattle.std.specs.List.{AllByRecursion, list_any}
 use Rattle.std.specs.Cmp.Lexicographic.{pointwise}
 use Rattle.gc_spec.specs.PropertyGraph.{PropertyGraph, ids_of}
@@ -17,6 +17,10 @@ no_graphs = record { names = []; graphs = []; next = 0 }
 -- with one more graph, under the next number
 abbrev pub with_graph : NamedGraphs → List ℕ → PropertyGraph → NamedGraphs
 with_graph c name g = record c { names = c.names ++ name ∷ []; graphs = c.graphs ++ g ∷ [] }
+
+-- the first graphs alone, with another first free identity
+abbrev pub first_graphs : NamedGraphs → (count next : ℕ) → NamedGraphs
+first_graphs c count next = record { names = take count c.names; graphs = take count c.graphs; next = next }
 
 -- the number of a name, if it is there
 abbrev pub number_of : List (List ℕ) → List ℕ → Option ℕ

@@ -1,8 +1,8 @@
-ghost use Rattle.std.specs.Prelude.{◌≡◌, ◌≤◌, ℕ, IfOk, IfErr, OnOk, OnErr, length, slice_get, None};
+ghost use Rattle.std.specs.Prelude.{◌≡◌, ◌≤◌, ℕ, IfOk, IfErr, OnOk, OnErr, length, slice_get, take, None};
 ghost use Rattle.std.specs.List.{AllByRecursion};
 ghost use Rattle.std.specs.Option.{option_copied};
 ghost use Rattle.gc_spec.specs.Coherence.{AreCoherent};
-ghost use Rattle.gc_catalog.specs.NamedGraphs.{NamedGraphs, IsCatalog, no_graphs, with_graph, number_of, AreBelow};
+ghost use Rattle.gc_catalog.specs.NamedGraphs.{NamedGraphs, IsCatalog, first_graphs, no_graphs, with_graph, number_of, AreBelow};
 ghost use Rattle.gc_catalog.specs.declared.catalog.AddRefusal.TheVariants.{Memory as OutOfMemory};
 
 use gc_base::{Memory, Name};
@@ -143,6 +143,19 @@ impl Catalog {
         ensures { self.new ≡ record self.old { next = n } }
     {
         self.next = n;
+    }
+
+    /// Keeps the graphs of the first numbers, with their names, and makes the free identities begin at
+    /// `next`, as before the others were added. It takes no memory.
+    pub fn back_to(&mut self, graphs: u32, next: u64)
+        requires there { graphs ≤ length self.old.graphs }
+        requires below { AllByRecursion (AreBelow next) (take graphs self.old.graphs) }
+        requires most { next ≤ MOST_NEXT }
+        ensures { self.new ≡ first_graphs self.old graphs next }
+    {
+        self.names.truncate(graphs as usize);
+        self.graphs.cut(graphs);
+        self.next = next;
     }
 }
 
