@@ -1,5 +1,5 @@
 -- Going from bundle to bundle.
-use Rattle.std.proofs.Common.{◌≡◌, ℕ, ◌+◌, List, ◌++◌, map, length, drop, Some, sym, ap, ◌∙◌, length-append}
+use Rattle.std.proofs.Common.{◌≡◌, ℕ, zero, suc, ◌+◌, ◌<◌, List, [], ◌∷◌, ◌++◌, map, length, drop, get_or, Some, sym, ap, ◌∙◌, length-append, append_assoc, arith}
 use Rattle.std.specs.List.{flat_map, slice_get}
 use Rattle.std.proofs.lemmas.List.{length-map, map-append}
 use Rattle.std.proofs.lemmas.List.Sums.{fold-append}
@@ -26,3 +26,14 @@ module _ (bs : List Bundle) (j : ℕ) (b : Bundle) (at : slice_get bs j ≡ Some
   visits_left pairs =
       sym (fold-append visit pairs (targets_by b) (map target_of (moves_from bs (j + 1))))
       ∙ ap (visit_all pairs) (sym (map-append target_of (moves_by b) (moves_from bs (j + 1))) ∙ ap (map target_of) (sym one_off))
+
+  pub kept_left : {Y : Type 0} (f : Move → Y) (so_far whole : List Y) → so_far ++ map f (moves_from bs j) ≡ whole → (so_far ++ map f (moves_by b)) ++ map f (moves_from bs (j + 1)) ≡ whole
+  kept_left f so_far whole all =
+      append_assoc so_far (map f (moves_by b)) (map f (moves_from bs (j + 1)))
+      ∙ (ap (λ l. so_far ++ l) (sym (map-append f (moves_by b) (moves_from bs (j + 1))) ∙ ap (map f) (sym one_off)) ∙ all)
+
+-- what a loop reads at a place stands there
+pub item_at : {X : Type 0} (xs : List X) (i : ℕ) (x : X) → i < length xs → x ≡ get_or xs i x → slice_get xs i ≡ Some x
+item_at [] i x below is = absurd (omega arith)
+item_at (y ∷ xs) zero x below is = ap Some (sym is)
+item_at (y ∷ xs) (suc i) x below is = item_at xs i x (omega arith) is

@@ -59,7 +59,7 @@ module _ (setting : Setting) where
 
 module _ (behind : Pair → List Pair) where
   -- once more
-  led_more : (n : ℕ) (p q r : Pair) → Led behind n p q → Contains (behind q) r → Led behind (suc n) p r
+  pub led_more : (n : ℕ) (p q r : Pair) → Led behind n p q → Contains (behind q) r → Led behind (suc n) p r
   led_more zero p q r is among = (r, subst (λ (s : Pair). Contains (behind s) r) (sym is) among, refl)
   led_more (suc n) p q r led among = (led.0, led.1, led_more n led.0 q r led.2 among)
 

@@ -1,6 +1,11 @@
+pub mod BetweenLaws
 pub mod BundleSteps
 pub mod FoundLaws
 pub mod MarkLaws
+pub mod NumberLaws
+pub mod OnLaws
 pub mod ReachedLaws
+pub mod SortLaws
+pub mod TurnLaws
 pub mod VisitLaws
 pub mod WorkLaws

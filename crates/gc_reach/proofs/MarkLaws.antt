@@ -9,8 +9,10 @@ use Rattle.std.proofs.lemmas.Bool.Decides.{nat_tests}
 use Rattle.std.proofs.lemmas.List.Folds.{list_any-append}
 use Rattle.std.proofs.lemmas.List.Sums.{sum_by-set}
 use Rattle.gc_base.specs.Ascending.{Ascends}
+use Rattle.gc_base.proofs.SetLaws.{AllByRecursion-append}
 use Rattle.gc_prod.specs.declared.moves.Pair.{Pair}
 use Rattle.gc_prod.specs.Leading.{pair}
+use Rattle.gc_reach.specs.Numbering.{IsNumbered}
 use Rattle.gc_reach.specs.Marking.{same_pair, has_pair, Marking, IsMarked}
 
 -- the mark of a place and a state is within the marks
@@ -32,7 +34,7 @@ by_order (suc p) (suc q) = by (by_order p q)
     by (inr (inl same)) = inr (inl (ap suc same))
     by (inr (inr more)) = inr (inr (omega arith))
 
-same_place : (w p s q t : ℕ) → s < w → t < w → p * w + s ≡ q * w + t → p ≡ q
+pub same_place : (w p s q t : ℕ) → s < w → t < w → p * w + s ≡ q * w + t → p ≡ q
 same_place w p s q t low high same = by (by_order p q)
   where
     by : (p < q) ⊎ ((p ≡ q) ⊎ (q < p)) → p ≡ q
@@ -41,7 +43,7 @@ same_place w p s q t low high same = by (by_order p q)
     by (inr (inr more)) = absurd (later_differs w q t p s more high (sym same))
 
 -- ascending numbers differ
-above_differs : (x : ℕ) (xs : List ℕ) (i : ℕ) → AllByRecursion (λ y. nat_cmp x y ≡ Less) xs → i < length xs → x < get_or xs i 0
+pub above_differs : (x : ℕ) (xs : List ℕ) (i : ℕ) → AllByRecursion (λ y. nat_cmp x y ≡ Less) xs → i < length xs → x < get_or xs i 0
 above_differs x [] i all below = absurd (omega arith)
 above_differs x (y ∷ xs) zero all below = by_less x y all.0
   where
@@ -133,8 +135,10 @@ module _ (m : Marking) (marked : List Bool) (is : IsMarked m marked) (place stat
       right_there p s low high (λ e. apart (same_place m.width p s place state high less e))
       (ap (λ b. b && (state == s)) (differs (get_or m.nodes place 0) (get_or m.nodes p 0) (λ e. others_differ m.nodes place p is.ascend below low (λ f. apart (sym f)) e)))
 
-  pub marked_more : get_or marked mark_at false ≡ false → IsMarked (record { nodes = m.nodes; width = m.width; pairs = m.pairs ++ new_pair ∷ [] }) (set marked mark_at true)
-  marked_more fresh = record {
+  pub marked_more : get_or marked mark_at false ≡ false → IsNumbered m.nodes m.width new_pair
+      → IsMarked (record { nodes = m.nodes; width = m.width; pairs = m.pairs ++ new_pair ∷ [] }) (set marked mark_at true)
+  marked_more fresh numbered = record {
+    numbered = AllByRecursion-append (IsNumbered m.nodes m.width) m.pairs (new_pair ∷ []) is.numbered (numbered, tt);
     ascend = is.ascend;
     size = length-set marked mark_at true ∙ is.size;
     exact = λ p s low high. right p s low high (p == place) (s == state) refl refl;

@@ -27,6 +27,7 @@ use Rattle.gc_regx.specs.Expressions.{HasParts}
 use Rattle.gc_regx.specs.Trees.{RegexTree, ARegex}
 use Rattle.gc_reach.specs.Exploring.{AreAll, IsLed, targets}
 use Rattle.gc_reach.specs.Marking.{has_pair}
+use Rattle.gc_reach.specs.OnWalks.{IsOnRun, IsOnWalk}
 use Rattle.gc_reach.specs.Reached.{AreThose, IsReached}
 use Rattle.gc_reach.proofs.FoundLaws.{complete, led_leads, leads_led}
 use Rattle.gc_reach.proofs.VisitLaws.{has_contains}
@@ -48,14 +49,14 @@ module _ (setting : Setting) (law : IsNetwork setting.network) (nodes : List ℕ
   IsPassed state target = Passed setting (pair source 0) (pair target state)
 
   -- a marked pair is passed
-  passed : (state target : ℕ) → IsThere setting.network source → has_pair pairs (pair target state) ≡ true → IsPassed state target
+  pub passed : (state target : ℕ) → IsThere setting.network source → has_pair pairs (pair target state) ≡ true → IsPassed state target
   passed state target there h =
       let led = among_all (IsLed (targets setting) (pair source 0)) pairs (pair target state) all.found.sound (has_contains pairs (pair target state) h) in
       let run = leads_run setting law led.0 (pair source 0) (pair target state) there (led_leads setting led.0 (pair source 0) (pair target state) led.1) in
       record { walk = run.walk; cost = run.cost; runs = (led.0, run.runs); starts = run.starts; ends = run.ends }
 
   -- and a pair that is passed is marked
-  marked : (state target : ℕ) → IsPassed state target → has_pair pairs (pair target state) ≡ true
+  pub marked : (state target : ℕ) → IsPassed state target → has_pair pairs (pair target state) ≡ true
   marked state target p =
       let leads = run_leads setting p.runs.0 0 state p.walk p.cost p.runs.1 in
       let from : Leads setting p.runs.0 (pair source 0) (pair target state) =
@@ -104,43 +105,47 @@ runs_among network ts us all (suc n) from to w c run = record {
 }
 
 -- the run law
-abbrev Conform : Type 0
+abbrev pub Conform : Type 0
 Conform = (network : Network) → IsNetwork network → (tree : RegexTree ARegex) → HasParts tree → (w : Walk) (c : ℕ)
     → Runs network ((automaton_of tree).transitions 0) 0 ((automaton_of tree).states - 1) w c → Conforms network tree w c
 
-abbrev Pass : Type 0
+abbrev pub Pass : Type 0
 Pass = (network : Network) → IsNetwork network → (tree : RegexTree ARegex) → (w : Walk) (c : ℕ)
     → Conforms network tree w c → Runs network ((automaton_of tree).transitions 0) 0 ((automaton_of tree).states - 1) w c
 
-module _ (setting : Setting) (law : IsNetwork setting.network) (tree : RegexTree ARegex) (is : IsAutomatonOf tree setting.machine) (source target : ℕ) where
-  pub passed_conforms : Conform → HasParts tree → Passed setting (pair source 0) (pair target (setting.machine.states - 1)) → IsReached setting.network tree source target
-  passed_conforms conform parts p = record {
-    walk = p.walk;
-    cost = p.cost;
-    conforms = conform setting.network law tree parts p.walk p.cost (
-      p.runs.0,
-      subst (λ n. RunsIn setting.network ((automaton_of tree).transitions 0) p.runs.0 0 (n - 1) p.walk p.cost) is.states
-          (runs_among setting.network setting.machine.transitions ((automaton_of tree).transitions 0)
-          (λ t. Contains-permutation setting.machine.transitions ((automaton_of tree).transitions 0) t (IsPermutation-sym ((automaton_of tree).transitions 0) setting.machine.transitions is.exact))
-          p.runs.0 0 (setting.machine.states - 1) p.walk p.cost p.runs.1),
-    );
-    starts = p.starts;
-    ends = p.ends;
-  }
+module _ (setting : Setting) (law : IsNetwork setting.network) (tree : RegexTree ARegex) (is : IsAutomatonOf tree setting.machine) where
+  -- a walk that a run passes from the first state to the last conforms, and the other way
+  pub run_conforms : Conform → HasParts tree → (w : Walk) (c : ℕ) → Runs setting.network setting.machine.transitions 0 (setting.machine.states - 1) w c → Conforms setting.network tree w c
+  run_conforms conform parts w c run =
+      conform setting.network law tree parts w c (
+        run.0,
+        subst (λ n. RunsIn setting.network ((automaton_of tree).transitions 0) run.0 0 (n - 1) w c) is.states
+            (runs_among setting.network setting.machine.transitions ((automaton_of tree).transitions 0)
+            (λ t. Contains-permutation setting.machine.transitions ((automaton_of tree).transitions 0) t (IsPermutation-sym ((automaton_of tree).transitions 0) setting.machine.transitions is.exact))
+            run.0 0 (setting.machine.states - 1) w c run.1),
+      )
 
-  pub conforms_passed : Pass → IsReached setting.network tree source target → Passed setting (pair source 0) (pair target (setting.machine.states - 1))
-  conforms_passed pass r =
-      let run = pass setting.network law tree r.walk r.cost r.conforms in
-      record {
-        walk = r.walk;
-        cost = r.cost;
-        runs = (
-          run.0,
-          subst (λ n. RunsIn setting.network setting.machine.transitions run.0 0 (n - 1) r.walk r.cost) (sym is.states)
-              (runs_among setting.network ((automaton_of tree).transitions 0) setting.machine.transitions
-              (λ t. Contains-permutation ((automaton_of tree).transitions 0) setting.machine.transitions t is.exact)
-              run.0 0 ((automaton_of tree).states - 1) r.walk r.cost run.1),
-        );
-        starts = r.starts;
-        ends = r.ends;
-      }
+  pub conforms_run : Pass → (w : Walk) (c : ℕ) → Conforms setting.network tree w c → Runs setting.network setting.machine.transitions 0 (setting.machine.states - 1) w c
+  conforms_run pass w c h =
+      let run = pass setting.network law tree w c h in (
+        run.0,
+        subst (λ n. RunsIn setting.network setting.machine.transitions run.0 0 (n - 1) w c) (sym is.states)
+            (runs_among setting.network ((automaton_of tree).transitions 0) setting.machine.transitions
+            (λ t. Contains-permutation ((automaton_of tree).transitions 0) setting.machine.transitions t is.exact)
+            run.0 0 ((automaton_of tree).states - 1) w c run.1),
+      )
+
+  module _ (source target : ℕ) where
+    pub passed_conforms : Conform → HasParts tree → Passed setting (pair source 0) (pair target (setting.machine.states - 1)) → IsReached setting.network tree source target
+    passed_conforms conform parts p = record { walk = p.walk; cost = p.cost; conforms = run_conforms conform parts p.walk p.cost p.runs; starts = p.starts; ends = p.ends }
+
+    pub conforms_passed : Pass → IsReached setting.network tree source target → Passed setting (pair source 0) (pair target (setting.machine.states - 1))
+    conforms_passed pass r = record { walk = r.walk; cost = r.cost; runs = conforms_run pass r.walk r.cost r.conforms; starts = r.starts; ends = r.ends }
+
+    -- what lies on the walks of runs lies on those that conform, and the other way
+    module _ (parts_of : Walk → List ℕ) (id : ℕ) where
+      pub on_run_walk : Conform → HasParts tree → IsOnRun parts_of setting source target id → IsOnWalk parts_of setting.network tree source target id
+      on_run_walk conform parts p = record { walk = p.walk; cost = p.cost; conforms = run_conforms conform parts p.walk p.cost p.runs; starts = p.starts; ends = p.ends; among = p.among }
+
+      pub on_walk_run : Pass → IsOnWalk parts_of setting.network tree source target id → IsOnRun parts_of setting source target id
+      on_walk_run pass r = record { walk = r.walk; cost = r.cost; runs = conforms_run pass r.walk r.cost r.conforms; starts = r.starts; ends = r.ends; among = r.among }

@@ -1,10 +1,11 @@
 -- Pairs that are marked, in the order of their marking.
 use Rattle.std.specs.Prelude.{◌≡◌, ℕ, ◌+◌, ◌*◌, ◌<◌, Bool, false, not, ◌&&◌, ◌==◌, List, [], ◌∷◌, ◌++◌, length, count_by, slice_index_or, if◌then◌else◌}
-use Rattle.std.specs.List.{list_any, fold}
+use Rattle.std.specs.List.{AllByRecursion, list_any, fold}
 use Rattle.std.specs.Ordering.{nat_cmp}
 use Rattle.gc_base.specs.Ascending.{Ascends}
 use Rattle.gc_prod.specs.declared.moves.Pair.{Pair}
 use Rattle.gc_prod.specs.Leading.{pair}
+use Rattle.gc_reach.specs.Numbering.{IsNumbered}
 
 abbrev pub same_pair : Pair → Pair → Bool
 same_pair p q = (p.node == q.node) && (p.state == q.state)
@@ -32,4 +33,5 @@ pub record IsMarked (m : Marking) (marked : List Bool) : Type 0 where
   pub size : length marked ≡ length m.nodes * m.width
   pub exact : (place state : ℕ) → place < length m.nodes → state < m.width
       → slice_index_or marked (place * m.width + state) false ≡ has_pair m.pairs (pair (slice_index_or m.nodes place 0) state)
+  pub numbered : AllByRecursion (IsNumbered m.nodes m.width) m.pairs
   pub room : length m.pairs + count_by not marked ≡ length marked

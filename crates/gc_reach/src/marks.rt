@@ -1,9 +1,10 @@
-ghost use Rattle.std.specs.Prelude.{◌≡◌, ◌+◌, ◌*◌, ◌^◌, ◌<◌, ◌≤◌, [], length, true, IfOk, OnOk, slice_get, slice_index, replicate, false};
-ghost use Rattle.std.specs.List.{filter};
+ghost use Rattle.std.specs.Prelude.{◌≡◌, ◌+◌, ◌*◌, ◌^◌, ◌<◌, ◌≤◌, [], length, true, IfOk, IfSome, OnOk, slice_get, slice_index, replicate, false};
+ghost use Rattle.std.specs.List.{AllByRecursion, filter};
 ghost use Rattle.std.specs.Ordering.{nat_cmp};
 ghost use Rattle.gc_base.specs.Ascending.{Ascends};
 ghost use Rattle.gc_spec.specs.PropertyGraph.{is_among};
 ghost use Rattle.gc_prod.specs.Leading.{pair};
+ghost use Rattle.gc_reach.specs.Numbering.{place_in, number_of, IsNumbered};
 
 use gc_base::{Id, Memory};
 use gc_prod::Pair;
@@ -51,14 +52,33 @@ impl<'a> Marks<'a> {
         })
     }
 
-    // The i-th pair that was marked. There are no more marked than there may be.
+    // The i-th pair that was marked. It has a number, and there are no more marked than there may be.
     pub(crate) fn at(&self, i: usize) -> Option<Pair>
         ensures exact { result ≡ slice_get self.now.pairs i }
+        ensures numbered { IfSome result (IsNumbered self.now.nodes self.now.width) }
         ensures within { length self.now.pairs ≤ length self.now.nodes * self.now.width }
         ensures few { length self.now.pairs < 2 ^ 64 }
     {
         let _marked = self.marked.len();
         self.pairs.get(i).copied()
+    }
+
+    // The marked pairs, in the order of their marking. Each has a number.
+    pub(crate) fn pairs(&self) -> &[Pair]
+        ensures pairs { result.now ≡ self.now.pairs }
+        ensures numbered { AllByRecursion (IsNumbered self.now.nodes self.now.width) self.now.pairs }
+    {
+        &self.pairs
+    }
+
+    // The number of the pair of a node and a state.
+    pub(crate) fn number(&self, node: Id, state: u32) -> u64
+        requires node { is_among self.now.nodes node ≡ true }
+        requires state { state < self.now.width }
+        ensures { result ≡ number_of self.now.nodes self.now.width (pair node state) }
+    {
+        let place = place_of(self.nodes, node);
+        (place * self.width + state as usize) as u64
     }
 
     // Marks the pair of a node and a state, behind the others, where it is not marked yet.
@@ -74,6 +94,15 @@ impl<'a> Marks<'a> {
             self.marked[at] = true;
         }
         Ok(())
+    }
+
+    // Whether the pair of a node and a state is marked.
+    pub(crate) fn has_pair(&self, node: Id, state: u32) -> bool
+        requires node { is_among self.now.nodes node ≡ true }
+        requires state { state < self.now.width }
+        ensures { result ≡ has_pair self.now.pairs (pair node state) }
+    {
+        self.has(place_of(self.nodes, node), state)
     }
 
     // The nodes whose pairs with a state are marked, in their order.
@@ -107,6 +136,7 @@ fn place_of(nodes: &[Id], node: Id) -> usize
     requires among { is_among nodes.now node ≡ true }
     ensures within { result < length nodes.now }
     ensures there { slice_index nodes.now result ≡ node }
+    ensures place { result ≡ place_in nodes.now node }
 {
     let guess = guessed(nodes, node);
     if stands_at(nodes, guess, node) {

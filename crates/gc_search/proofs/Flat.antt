@@ -1,0 +1,158 @@
+-- What is settled, in the order in which it was, and what is pending.
+use Rattle.std.proofs.Common.{◌≡◌, ℕ, ◌+◌, ◌<◌, ◌≤◌, ◌==◌, ◌&&◌, Bool, true, false, cond, List, [], ◌∷◌, ◌++◌, map, length, refl, sym, ap, ap₂, subst, ◌∙◌, arith, inl, inr, ◌⊎◌}
+use Rattle.std.proofs.lemmas.Bool.{eq-eqb}
+use Rattle.std.proofs.lemmas.Bool.Decides.{nat_tests}
+use Rattle.std.proofs.lemmas.List.{append-nil, map-append}
+use Rattle.std.proofs.lemmas.List.Elements.{filter-append}
+use Rattle.gc_base.specs.declared.walk.Step.{Step}
+use Rattle.gc_prod.specs.declared.moves.Move.{Move}
+use Rattle.gc_prod.specs.declared.moves.Pair.{Pair}
+use Rattle.gc_prod.specs.Leading.{pair, steps_of}
+use Rattle.gc_prod.specs.Products.{Setting, moves}
+use Rattle.gc_search.specs.Arrivals.{FoundWalk, edges_along, entry_of, same_pair, arrivals_at, settled_at, passage, passages, stays_at, extended, extensions, TakesLeast, IsSeen}
+use Rattle.gc_search.specs.Entries.{Entry, entry, AtMost, extend, IsMoveCost}
+use Rattle.gc_search.specs.Passages.{Has, Passage, Reach, IsFirstK}
+use Rattle.gc_search.proofs.Settle.{Has_front, Inv, inv_start, inv_end, seen_covered, full_covered, inv_drop, inv_settle}
+
+eqb_same : (a b : ℕ) → (a == b) ≡ true → a ≡ b
+eqb_same a b h = grind (arith, nat_tests)
+
+and_both : (a b : Bool) → (a && b) ≡ true → (a ≡ true) × (b ≡ true)
+and_both true b h = (refl, h)
+and_both false b h = cc
+
+pub same_is : (p q : Pair) → same_pair p q ≡ true → p ≡ q
+same_is p q h =
+    let both = and_both _ _ h in
+    let node = eqb_same p.node q.node both.0 in
+    let state = eqb_same p.state q.state both.1 in
+    λ j. record { node = node j; state = state j }
+
+pub same_itself : (p : Pair) → same_pair p p ≡ true
+same_itself p = ap₂ (λ a b. a && b) (eq-eqb p.node p.node refl) (eq-eqb p.state p.state refl)
+
+pub arrivals_at-append : (cs ds : List FoundWalk) (q : Pair) → arrivals_at (cs ++ ds) q ≡ arrivals_at cs q ++ arrivals_at ds q
+arrivals_at-append cs ds q = filter-append (λ (a : FoundWalk). same_pair a.at q) cs ds
+
+pub settled_at-append : (cs ds : List FoundWalk) (q : Pair) → settled_at (cs ++ ds) q ≡ settled_at cs q ++ settled_at ds q
+settled_at-append cs ds q = ap (map entry_of) (arrivals_at-append cs ds q) ∙ map-append entry_of (arrivals_at cs q) (arrivals_at ds q)
+
+pub settled_here : (cs : List FoundWalk) (c : FoundWalk) → settled_at (cs ++ c ∷ []) c.at ≡ settled_at cs c.at ++ entry_of c ∷ []
+settled_here cs c = settled_at-append cs (c ∷ []) c.at ∙ ap (λ b. settled_at cs c.at ++ map entry_of (cond b (c ∷ []) [])) (same_itself c.at)
+
+one_at : (b : Bool) (c : FoundWalk) (q : Pair) → same_pair c.at q ≡ b → (settled_at (c ∷ []) q ≡ []) ⊎ (c.at ≡ q)
+one_at true c q e = inr (same_is c.at q e)
+one_at false c q e = inl (ap (λ b. map entry_of (cond b (c ∷ []) [])) e)
+
+pub settled_elsewhere : (cs : List FoundWalk) (c : FoundWalk) (q : Pair) → (settled_at (cs ++ c ∷ []) q ≡ settled_at cs q) ⊎ (c.at ≡ q)
+settled_elsewhere cs c q = elim (one_at (same_pair c.at q) c q refl) [
+  | inl e ↦ inl (settled_at-append cs (c ∷ []) q ∙ ap (λ v. settled_at cs q ++ v) e ∙ append-nil (settled_at cs q))
+  | inr d ↦ inr d
+]
+
+pub Has_cases : {X : Type 0} (xs ys : List X) (x : X) → Has (xs ++ ys) x → Has xs x ⊎ Has ys x
+Has_cases [] ys x h = inr h
+Has_cases (z ∷ xs) ys x (inl e) = inl (inl e)
+Has_cases (z ∷ xs) ys x (inr h) = elim (Has_cases xs ys x h) [ inl g ↦ inl (inr g) | inr g ↦ inr g ]
+
+pub Has_later : {X : Type 0} (xs ys : List X) (x : X) → Has ys x → Has (xs ++ ys) x
+Has_later [] ys x h = h
+Has_later (z ∷ xs) ys x h = inr (Has_later xs ys x h)
+
+pub Has_map : {X Y : Type 0} (f : X → Y) (xs : List X) (x : X) → Has xs x → Has (map f xs) (f x)
+Has_map f [] x h = elim h [ ]
+Has_map f (y ∷ xs) x (inl e) = inl (ap f e)
+Has_map f (y ∷ xs) x (inr h) = inr (Has_map f xs x h)
+
+pub Has_from_map : {X Y : Type 0} (f : X → Y) (xs : List X) (y : Y) → Has (map f xs) y → (x : X) × Has xs x × (f x ≡ y)
+Has_from_map f [] y h = elim h [ ]
+Has_from_map f (x ∷ xs) y (inl e) = (x, inl refl, e)
+Has_from_map f (x ∷ xs) y (inr h) = let a = Has_from_map f xs y h in (a.0, inr a.1, a.2)
+
+-- an extension is seen by the extension of its entry
+pub entry_extended : (setting : Setting) (c : FoundWalk) (m : Move) → entry_of (extended setting c m) ≡ extend (entry_of c) m.cost (edges_along (steps_of setting m))
+entry_extended setting c m = ap (λ (w : List ℕ). entry (c.cost + m.cost) w) (map-append (λ (s : Step). s.edge) c.steps (steps_of setting m))
+
+-- an entry is pending at a pair
+abbrev pub IsPending : List FoundWalk → Pair → Entry → Type 0
+IsPending cs p e = (c : FoundWalk) × Has cs c × (c.at ≡ p) × (entry_of c ≡ e)
+
+module _ (setting : Setting) (source : ℕ) (k : ℕ) where
+  abbrev pub State : List FoundWalk → List FoundWalk → Type 0
+  State settled pending = Inv Pair (passages setting) (pair source 0) k (settled_at settled) (IsPending pending)
+
+  pub state_start : State [] (stays_at source ∷ [])
+  state_start = inv_start Pair (passages setting) (pair source 0) k (IsPending (stays_at source ∷ [])) (stays_at source, inl refl, refl, refl)
+      (λ p e h. elim (h.1) [
+        | inl d ↦ (sym (ap (λ (v : FoundWalk). v.at) d ∙ h.2), sym (ap entry_of d ∙ h.3))
+        | inr g ↦ elim g [ ]
+      ])
+
+  pub state_end : (settled : List FoundWalk) → State settled [] → (q : Pair) → IsFirstK k (Reach (passages setting) (pair source 0) q) (settled_at settled q)
+  state_end settled s = inv_end Pair (passages setting) (pair source 0) k (settled_at settled) (IsPending []) s (λ p e h. h.1)
+
+  module _ (settled cs rest : List FoundWalk) (c : FoundWalk) (s : State settled cs) (t : TakesLeast cs c rest) where
+    taken : IsPending cs c.at (entry_of c)
+    taken = (c, t.there, refl, refl)
+
+    fewer : (p : Pair) (x : Entry) → IsPending rest p x → IsPending cs p x
+    fewer p x h = (h.0, t.from h.0 h.1, h.2, h.3)
+
+    kept : (p : Pair) (x : Entry) → IsPending cs p x → IsPending rest p x ⊎ ((c.at ≡ p) × (entry_of c ≡ x))
+    kept p x h = elim (t.kept h.0 h.1) [
+      | inl g ↦ inl (h.0, g, h.2, h.3)
+      | inr d ↦ inr (ap (λ (v : FoundWalk). v.at) d ∙ h.2, ap entry_of d ∙ h.3)
+    ]
+
+    pub state_seen : IsSeen settled c → State settled rest
+    state_seen seen =
+        inv_drop Pair (passages setting) (pair source 0) k (settled_at settled) (IsPending cs) (IsPending rest) s c.at (entry_of c)
+        (seen_covered Pair (passages setting) (pair source 0) k (settled_at settled) (IsPending cs) s c.at (entry_of c) taken seen.0 seen.1 seen.2) fewer kept
+
+    pub state_full : (IsSeen settled c → ⊥) → k ≤ length (settled_at settled c.at) → State settled rest
+    state_full new full =
+        inv_drop Pair (passages setting) (pair source 0) k (settled_at settled) (IsPending cs) (IsPending rest) s c.at (entry_of c)
+        (full_covered Pair (passages setting) (pair source 0) k (settled_at settled) (IsPending cs) s c.at (entry_of c) taken (λ x h e. new (x, h, e)) full) fewer kept
+
+    onward : (m : Passage Pair) → Has (passages setting c.at) m → IsPending (rest ++ extensions setting c (moves setting c.at.node c.at.state)) m.to (extend (entry_of c) m.cost m.edges)
+    onward m h =
+        let ms = moves setting c.at.node c.at.state in
+        let from = Has_from_map (passage setting) ms m h in
+        let x = extended setting c from.0 in (
+          x,
+          Has_later rest (extensions setting c ms) x (Has_map (extended setting c) ms from.0 from.1),
+          ap (λ (v : Passage Pair). v.to) from.2,
+          entry_extended setting c from.0 ∙ ap (λ (v : Passage Pair). extend (entry_of c) v.cost v.edges) from.2,
+        )
+
+    came : (p : Pair) (x : Entry) → IsPending (rest ++ extensions setting c (moves setting c.at.node c.at.state)) p x
+        → IsPending cs p x ⊎ ((m : Passage Pair) × Has (passages setting c.at) m × (m.to ≡ p) × (extend (entry_of c) m.cost m.edges ≡ x))
+    came p x h =
+        let ms = moves setting c.at.node c.at.state in
+        elim (Has_cases rest (extensions setting c ms) h.0 h.1) [
+          | inl g ↦ inl (fewer p x (h.0, g, h.2, h.3))
+          | inr g ↦
+              let from = Has_from_map (extended setting c) ms h.0 g in
+              inr (
+                passage setting from.0,
+                Has_map (passage setting) ms from.0 from.1,
+                ap (λ (v : FoundWalk). v.at) from.2 ∙ h.2,
+                sym (entry_extended setting c from.0) ∙ (ap entry_of from.2 ∙ h.3),
+              )
+        ]
+
+    pub state_settle : ((p : Pair) (m : Passage Pair) → Has (passages setting p) m → IsMoveCost m.cost m.edges)
+        → (IsSeen settled c → ⊥) → length (settled_at settled c.at) < k → State (settled ++ c ∷ []) (rest ++ extensions setting c (moves setting c.at.node c.at.state))
+    state_settle costs new room =
+        let ms = moves setting c.at.node c.at.state in
+        inv_settle Pair (passages setting) (pair source 0) k costs (settled_at settled) (settled_at (settled ++ c ∷ [])) (IsPending cs) (IsPending (rest ++ extensions setting c ms)) c.at (entry_of c) s (record {
+          taken = taken;
+          least = λ p x h. subst (λ (e : Entry). AtMost (entry_of c) e) h.3 (t.least h.0 h.1);
+          new = λ x h e. new (x, h, e);
+          room = room;
+          pushed = settled_here settled c;
+          others = settled_elsewhere settled c;
+          kept = λ p x h. elim (kept p x h) [ inl g ↦ inl (g.0, Has_front rest (extensions setting c ms) g.0 g.1, g.2, g.3) | inr d ↦ inr d ];
+          from = came;
+          onward = onward;
+        })

@@ -1,0 +1,10 @@
+pub mod Bridge
+pub mod ConformLaws
+pub mod First
+pub mod FirstLaws
+pub mod Flat
+pub mod LoopLaws
+pub mod Order
+pub mod Settle
+pub mod Turns
+pub mod WalkFacts

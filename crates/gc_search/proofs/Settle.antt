@@ -1,0 +1,208 @@
+-- The settling loop: settled lists at each pair, and what is pending; the invariant, its three steps and its end.
+use Rattle.std.proofs.Common.{◌≡◌, ℕ, ◌<◌, ◌≤◌, List, [], ◌∷◌, ◌++◌, length, refl, sym, ap, ◌∙◌, subst, arith, inl, inr, ◌⊎◌, length-append}
+use Rattle.gc_search.specs.Entries.{Entry, entry, Before, AtMost, extend, IsMoveCost}
+use Rattle.gc_search.specs.Passages.{Has, Passage, Goes, Reach, IsFirstK, Rises, Covered, Listed, Past}
+use Rattle.gc_search.proofs.First.{Distinct, first_k}
+use Rattle.gc_search.proofs.Order.{at_most_trans, at_most_same_walk, at_most_apart, at_most_extend}
+
+pub Has_front : {X : Type 0} (xs ys : List X) (x : X) → Has xs x → Has (xs ++ ys) x
+Has_front [] ys x h = elim h [ ]
+Has_front (z ∷ xs) ys x (inl e) = inl e
+Has_front (z ∷ xs) ys x (inr h) = inr (Has_front xs ys x h)
+
+pub Has_back : {X : Type 0} (xs : List X) (x : X) → Has (xs ++ x ∷ []) x
+Has_back [] x = inl refl
+Has_back (z ∷ xs) x = inr (Has_back xs x)
+
+pub Has_pushed : {X : Type 0} (xs : List X) (y x : X) → Has (xs ++ y ∷ []) x → Has xs x ⊎ (y ≡ x)
+Has_pushed [] y x (inl e) = inr e
+Has_pushed [] y x (inr h) = elim h [ ]
+Has_pushed (z ∷ xs) y x (inl e) = inl (inl e)
+Has_pushed (z ∷ xs) y x (inr h) = elim (Has_pushed xs y x h) [ inl g ↦ inl (inr g) | inr e ↦ inr e ]
+
+ascends_push : (xs : List Entry) (e : Entry) → Rises xs → ((x : Entry) → Has xs x → Before x e) → Rises (xs ++ e ∷ [])
+ascends_push [] e a b = (λ y h. elim h [ ], tt)
+ascends_push (x ∷ xs) e a b = (
+  λ y h. elim (Has_pushed xs e y h) [ inl g ↦ a.0 y g | inr d ↦ subst (λ v. Before x v) d (b x (inl refl)) ],
+  ascends_push xs e a.1 (λ y g. b y (inr g)),
+)
+
+distinct_push : (xs : List Entry) (e : Entry) → Distinct xs → ((x : Entry) → Has xs x → x.edges ≡ e.edges → ⊥) → Distinct (xs ++ e ∷ [])
+distinct_push [] e a b = (λ y h. elim h [ ], tt)
+distinct_push (x ∷ xs) e a b = (
+  λ y h s. elim (Has_pushed xs e y h) [ inl g ↦ a.0 y g s | inr d ↦ b x (inl refl) (s ∙ sym (ap (λ (v : Entry). v.edges) d)) ],
+  distinct_push xs e a.1 (λ y g. b y (inr g)),
+)
+
+goes_push : {P : Type 0} (passages : P → List (Passage P)) (run : List (Passage P)) (p q : P) (e f : Entry) (m : Passage P)
+    → Goes passages p e run q f → Has (passages q) m → Goes passages p e (run ++ m ∷ []) m.to (extend f m.cost m.edges)
+goes_push passages [] p q e f m g h = (
+  subst (λ v. Has (passages v) m) (sym g.0) h,
+  (refl, ap (λ v. extend v m.cost m.edges) g.1),
+)
+goes_push passages (n ∷ run) p q e f m g h = (g.0, goes_push passages run n.to q (extend e n.cost n.edges) f m g.1 h)
+
+module _ (P : Type 0) (passages : P → List (Passage P)) (source : P) (k : ℕ) where
+  abbrev pub Table : Type 0
+  Table = P → List Entry
+
+  abbrev pub Pending : Type 1
+  Pending = P → Entry → Type 0
+
+  -- covered by what is settled, or pending
+  abbrev pub IsDue : (P → List Entry) → (P → Entry → Type 0) → P → Entry → Type 0
+  IsDue at pending p e = Covered k (at p) e ⊎ pending p e
+
+  pub record Inv (at : P → List Entry) (pending : P → Entry → Type 0) : Type 0 where
+    pub sound : (p : P) (x : Entry) → Has (at p) x → Reach passages source p x
+    pub pending_sound : (p : P) (x : Entry) → pending p x → Reach passages source p x
+    pub few : (p : P) → length (at p) ≤ k
+    pub ascends : (p : P) → Rises (at p)
+    pub distinct : (p : P) → Distinct (at p)
+    pub ordered : (p q : P) (x e : Entry) → Has (at p) x → pending q e → AtMost x e
+    pub begun : IsDue at pending source (entry 0 [])
+    pub closed : (p : P) (x : Entry) → Has (at p) x → (m : Passage P) → Has (passages p) m → IsDue at pending m.to (extend x m.cost m.edges)
+
+  -- the start: nothing settled, the source with the empty walk pending
+  pub inv_start : (pending : P → Entry → Type 0) → pending source (entry 0 [])
+      → ((p : P) (e : Entry) → pending p e → (p ≡ source) × (e ≡ entry 0 [])) → Inv (λ p. []) pending
+  inv_start pending h only = record {
+    sound = λ p x g. elim g [ ];
+    pending_sound = λ p x g. let o = only p x g in ([], (sym o.0, sym o.1));
+    few = λ p. omega arith;
+    ascends = λ p. tt;
+    distinct = λ p. tt;
+    ordered = λ p q x e g d. elim g [ ];
+    begun = inr h;
+    closed = λ p x g m i. elim g [ ];
+  }
+
+  -- the end: nothing pending
+  pub inv_end : (at : P → List Entry) (pending : P → Entry → Type 0) → Inv at pending → ((p : P) (e : Entry) → pending p e → ⊥)
+      → (q : P) → IsFirstK k (Reach passages source q) (at q)
+  inv_end at pending inv none q =
+      let now : (p : P) (e : Entry) → IsDue at pending p e → Covered k (at p) e = λ p e d. elim d [ inl c ↦ c | inr h ↦ elim (none p e h) [ ] ] in
+      first_k P passages source k at inv.distinct inv.few (λ p x h m g. now m.to (extend x m.cost m.edges) (inv.closed p x h m g)) (now source (entry 0 []) inv.begun) inv.ascends inv.sound q
+
+  -- a pending entry whose walk is settled there
+  pub seen_covered : (at : P → List Entry) (pending : P → Entry → Type 0) → Inv at pending → (q : P) (e : Entry) → pending q e
+      → (x : Entry) → Has (at q) x → x.edges ≡ e.edges → Covered k (at q) e
+  seen_covered at pending inv q e h x g s = Listed x g s (at_most_same_walk x e (inv.ordered q q x e g h) s)
+
+  -- a pending entry at a pair that has k others
+  pub full_covered : (at : P → List Entry) (pending : P → Entry → Type 0) → Inv at pending → (q : P) (e : Entry) → pending q e
+      → ((x : Entry) → Has (at q) x → x.edges ≡ e.edges → ⊥) → k ≤ length (at q) → Covered k (at q) e
+  full_covered at pending inv q e h new n = Past n (λ x g. at_most_apart x e (inv.ordered q q x e g h) (new x g))
+
+  -- what is covered is taken away
+  pub inv_drop : (at : P → List Entry) (pending pending' : P → Entry → Type 0) → Inv at pending → (q : P) (e : Entry) → Covered k (at q) e
+      → ((p : P) (x : Entry) → pending' p x → pending p x)
+      → ((p : P) (x : Entry) → pending p x → pending' p x ⊎ ((q ≡ p) × (e ≡ x)))
+      → Inv at pending'
+  inv_drop at pending pending' inv q e c fewer kept =
+      let due : (p : P) (x : Entry) → IsDue at pending p x → IsDue at pending' p x = λ p x d. elim d [
+        | inl c' ↦ inl c'
+        | inr h ↦ elim (kept p x h) [
+          | inl h' ↦ inr h'
+          | inr s ↦ inl (subst (λ v. Covered k (at p) v) s.1 (subst (λ v. Covered k (at v) e) s.0 c))
+        ]
+      ] in
+      record {
+        sound = inv.sound;
+        pending_sound = λ p x h. inv.pending_sound p x (fewer p x h);
+        few = inv.few;
+        ascends = inv.ascends;
+        distinct = inv.distinct;
+        ordered = λ p r x y g h. inv.ordered p r x y g (fewer r y h);
+        begun = due source (entry 0 []) inv.begun;
+        closed = λ p x h m g. due m.to (extend x m.cost m.edges) (inv.closed p x h m g);
+      }
+
+  -- a least pending entry is settled at its pair, and the extensions by the pair's passages are pending
+  pub record Settles (at at' : P → List Entry) (pending pending' : P → Entry → Type 0) (q : P) (e : Entry) : Type 0 where
+    pub taken : pending q e
+    pub least : (p : P) (x : Entry) → pending p x → AtMost e x
+    pub new : (x : Entry) → Has (at q) x → x.edges ≡ e.edges → ⊥
+    pub room : length (at q) < k
+    pub pushed : at' q ≡ at q ++ e ∷ []
+    pub others : (p : P) → (at' p ≡ at p) ⊎ (q ≡ p)
+    pub kept : (p : P) (x : Entry) → pending p x → pending' p x ⊎ ((q ≡ p) × (e ≡ x))
+    pub from : (p : P) (x : Entry) → pending' p x → pending p x ⊎ ((m : Passage P) × Has (passages q) m × (m.to ≡ p) × (extend e m.cost m.edges ≡ x))
+    pub onward : (m : Passage P) → Has (passages q) m → pending' m.to (extend e m.cost m.edges)
+
+  pub inv_settle : ((p : P) (m : Passage P) → Has (passages p) m → IsMoveCost m.cost m.edges)
+      → (at at' : P → List Entry) (pending pending' : P → Entry → Type 0) (q : P) (e : Entry)
+      → Inv at pending → Settles at at' pending pending' q e → Inv at' pending'
+  inv_settle costs at at' pending pending' q e inv s =
+      -- what is at each pair now
+      let each : (p : P) → (at' p ≡ at p) ⊎ ((q ≡ p) × (at' p ≡ at p ++ e ∷ [])) = λ p. elim (s.others p) [
+        | inl d ↦ inl d
+        | inr d ↦ inr (d, subst (λ v. at' v ≡ at v ++ e ∷ []) d s.pushed)
+      ] in
+      let was : (p : P) (x : Entry) → Has (at' p) x → Has (at p) x ⊎ ((q ≡ p) × (e ≡ x)) = λ p x h. elim (each p) [
+        | inl d ↦ inl (subst (λ v. Has v x) d h)
+        | inr d ↦ elim (Has_pushed (at p) e x (subst (λ v. Has v x) d.1 h)) [ inl g ↦ inl g | inr f ↦ inr (d.0, f) ]
+      ] in
+      let stays : (p : P) (x : Entry) → Has (at p) x → Has (at' p) x = λ p x h. elim (each p) [
+        | inl d ↦ subst (λ v. Has v x) (sym d) h
+        | inr d ↦ subst (λ v. Has v x) (sym d.1) (Has_front (at p) (e ∷ []) x h)
+      ] in
+      let covered : (p : P) (x : Entry) → Covered k (at p) x → Covered k (at' p) x = λ p x c. elim c [
+        | Listed y h d n ↦ Listed y (stays p y h) d n
+        | Past n b ↦ elim (each p) [
+          | inl d ↦ subst (λ v. Covered k v x) (sym d) (Past n b)
+          | inr d ↦ let l : length (at q) ≡ length (at p) = ap (λ v. length (at v)) d.0 in let room : length (at q) < k = s.room in let f : ⊥ = omega (arith, l, n, room) in elim f [ ]
+        ]
+      ] in
+      let here : Has (at' q) e = subst (λ v. Has v e) (sym s.pushed) (Has_back (at q) e) in
+      let due : (p : P) (x : Entry) → IsDue at pending p x → IsDue at' pending' p x = λ p x d. elim d [
+        | inl c ↦ inl (covered p x c)
+        | inr h ↦ elim (s.kept p x h) [
+          | inl h' ↦ inr h'
+          | inr t ↦ inl (Listed e (subst (λ v. Has (at' v) e) t.0 here) (ap (λ (v : Entry). v.edges) t.1) (let n : e.cost ≡ x.cost = ap (λ (v : Entry). v.cost) t.1 in omega (arith, n)))
+        ]
+      ] in
+      let reach : Reach passages source q e = inv.pending_sound q e s.taken in
+      let before : (x : Entry) → Has (at q) x → Before x e = λ x h. at_most_apart x e (inv.ordered q q x e h s.taken) (s.new x h) in
+      -- the least of what was pending is at most what is pending now
+      let bound : (p : P) (x : Entry) → pending' p x → AtMost e x = λ p x h. elim (s.from p x h) [
+        | inl g ↦ s.least p x g
+        | inr f ↦ subst (λ v. AtMost e v) f.3 (at_most_extend e (f.0).cost (f.0).edges (costs q f.0 f.1))
+      ] in
+      record {
+        sound = λ p x h. elim (was p x h) [
+          | inl g ↦ inv.sound p x g
+          | inr t ↦ subst (λ v. Reach passages source p v) t.1 (subst (λ v. Reach passages source v e) t.0 reach)
+        ];
+        pending_sound = λ p x h. elim (s.from p x h) [
+          | inl g ↦ inv.pending_sound p x g
+          | inr f ↦
+              let r : Reach passages source (f.0).to (extend e (f.0).cost (f.0).edges) = (reach.0 ++ f.0 ∷ [], goes_push passages reach.0 source q (entry 0 []) e f.0 reach.1 f.1) in
+              subst (λ v. Reach passages source p v) f.3 (subst (λ v. Reach passages source v (extend e (f.0).cost (f.0).edges)) f.2 r)
+        ];
+        few = λ p. elim (each p) [
+          | inl d ↦ subst (λ v. length v ≤ k) (sym d) (inv.few p)
+          | inr d ↦
+              let l : length (at q) ≡ length (at p) = ap (λ v. length (at v)) d.0 in
+              let n : length (at' p) ≡ length (at p ++ e ∷ []) = ap length d.1 in
+              let room : length (at q) < k = s.room in
+              omega (arith, l, n, room, length-append (at p) (e ∷ []))
+        ];
+        ascends = λ p. elim (each p) [
+          | inl d ↦ subst Rises (sym d) (inv.ascends p)
+          | inr d ↦ subst Rises (sym d.1) (ascends_push (at p) e (inv.ascends p) (λ x h. before x (subst (λ v. Has (at v) x) (sym d.0) h)))
+        ];
+        distinct = λ p. elim (each p) [
+          | inl d ↦ subst Distinct (sym d) (inv.distinct p)
+          | inr d ↦ subst Distinct (sym d.1) (distinct_push (at p) e (inv.distinct p) (λ x h. s.new x (subst (λ v. Has (at v) x) (sym d.0) h)))
+        ];
+        ordered = λ p r x y h g. elim (was p x h) [
+          | inl i ↦ at_most_trans x e y (inv.ordered p q x e i s.taken) (bound r y g)
+          | inr t ↦ subst (λ v. AtMost v y) t.1 (bound r y g)
+        ];
+        begun = due source (entry 0 []) inv.begun;
+        closed = λ p x h m g. elim (was p x h) [
+          | inl i ↦ due m.to (extend x m.cost m.edges) (inv.closed p x i m g)
+          | inr t ↦ inr (subst (λ v. pending' m.to (extend v m.cost m.edges)) t.1 (s.onward m (subst (λ v. Has (passages v) m) (sym t.0) g)))
+        ];
+      }

@@ -1,0 +1,78 @@
+-- The turns of the search: one that settles the least walk that is pending, and two that drop it.
+use Rattle.std.proofs.Common.{◌≡◌, ℕ, ◌+◌, ◌*◌, ◌^◌, ◌<◌, ◌≤◌, ◌==◌, true, List, [], ◌∷◌, ◌++◌, length, refl, sym, subst, arith, length-append}
+use Rattle.std.specs.List.{AllByRecursion}
+use Rattle.std.proofs.lemmas.Bool.Decides.{nat_tests}
+use Rattle.gc_base.proofs.SetLaws.{AllByRecursion-append}
+use Rattle.gc_prod.specs.declared.moves.Pair.{Pair}
+use Rattle.gc_prod.specs.Leading.{pair}
+use Rattle.gc_prod.specs.Products.{Setting, moves}
+use Rattle.gc_search.specs.Arrivals.{FoundWalk, settled_at, passages, stays_at, extended, extensions, TakesLeast, IsSeen}
+use Rattle.gc_search.specs.Entries.{IsMoveCost}
+use Rattle.gc_search.specs.Finding.{IsFollowed}
+use Rattle.gc_search.specs.Passages.{Has, Passage, Reach, IsFirstK}
+use Rattle.gc_search.proofs.Bridge.{contains_of, follows_push}
+use Rattle.gc_search.proofs.Flat.{State, state_start, state_end, state_seen, state_full, state_settle, Has_from_map}
+use Rattle.gc_search.proofs.LoopLaws.{all_has, all_of_has, all_rest, costs_more}
+
+pub none_pending : {X : Type 0} (xs : List X) (n : ℕ) → n ≡ length xs → (n == 0) ≡ true → xs ≡ []
+none_pending [] n is none = refl
+none_pending (x ∷ xs) n is none = let zero_is : n ≡ 0 = grind (arith, nat_tests) in absurd (omega (arith, is, zero_is))
+
+module _ (setting : Setting) (source k : ℕ) where
+  -- what holds before and after each turn: each that is pending costs at most so much for each that is settled
+  pub record IsOn (settled pending : List FoundWalk) : Type 0 where
+    pub state : State setting source k settled pending
+    pub small : AllByRecursion (λ a. a.cost ≤ length settled * 2 ^ 64) pending
+    pub found : AllByRecursion (IsFollowed setting source) settled
+    pub due : AllByRecursion (IsFollowed setting source) pending
+
+  pub turn_start : IsOn [] (stays_at source ∷ [])
+  turn_start = record { state = state_start setting source k; small = (omega arith, tt); found = tt; due = ((refl, refl, refl), tt) }
+
+  pub turn_end : (settled pending : List FoundWalk) → IsOn settled pending → pending ≡ [] → (q : Pair) → IsFirstK k (Reach (passages setting) (pair source 0) q) (settled_at settled q)
+  turn_end settled pending on none = state_end setting source k settled (subst (State setting source k settled) none on.state)
+
+  -- the extensions of a walk are passed by the run, and a move behind it
+  followed_further : (c : FoundWalk) → IsFollowed setting source c → AllByRecursion (IsFollowed setting source) (extensions setting c (moves setting c.at.node c.at.state))
+  followed_further c h =
+      let ms = moves setting c.at.node c.at.state in
+      all_of_has (IsFollowed setting source) (extensions setting c ms)
+      (λ x g.
+      let from = Has_from_map (extended setting c) ms x g in
+      subst (IsFollowed setting source) from.2 (follows_push setting c.run (pair source 0) c.at c.steps c.cost from.0 h (contains_of ms from.0 from.1)))
+
+  module _ (settled cs rest : List FoundWalk) (c : FoundWalk) (on : IsOn settled cs) (t : TakesLeast cs c rest) where
+    pub turn_small : c.cost ≤ length settled * 2 ^ 64
+    turn_small = all_has (λ (a : FoundWalk). a.cost ≤ length settled * 2 ^ 64) cs c on.small t.there
+
+    dropped : State setting source k settled rest → IsOn settled rest
+    dropped state = record {
+      state = state;
+      small = all_rest (λ (a : FoundWalk). a.cost ≤ length settled * 2 ^ 64) cs rest c t on.small;
+      found = on.found;
+      due = all_rest (IsFollowed setting source) cs rest c t on.due;
+    }
+
+    pub turn_seen : IsSeen settled c → IsOn settled rest
+    turn_seen seen = dropped (state_seen setting source k settled cs rest c on.state t seen)
+
+    pub turn_full : (count : ℕ) → (IsSeen settled c → ⊥) → count ≡ length (settled_at settled c.at) → k ≤ count → IsOn settled rest
+    turn_full count new is full = dropped (state_full setting source k settled cs rest c on.state t new (omega (arith, is, full)))
+
+    pub turn_settles : ((q : Pair) (m : Passage Pair) → Has (passages setting q) m → IsMoveCost m.cost m.edges) → (count : ℕ) → (IsSeen settled c → ⊥)
+        → count ≡ length (settled_at settled c.at) → count < k → (after : List FoundWalk) → after ≡ rest ++ extensions setting c (moves setting c.at.node c.at.state)
+        → ((most : ℕ) → c.cost + 2 ^ 64 ≤ most → AllByRecursion (λ a. a.cost ≤ most) rest → AllByRecursion (λ a. a.cost ≤ most) after)
+        → IsOn (settled ++ c ∷ []) after
+    turn_settles costs count new is room after grown small =
+        let next = moves setting c.at.node c.at.state in
+        let least : length settled * 2 ^ 64 ≤ length (settled ++ c ∷ []) * 2 ^ 64 = omega (arith, length-append settled (c ∷ [])) in
+        let most : c.cost + 2 ^ 64 ≤ length (settled ++ c ∷ []) * 2 ^ 64 = omega (arith, length-append settled (c ∷ []), turn_small) in
+        let all = all_rest (λ (a : FoundWalk). a.cost ≤ length settled * 2 ^ 64) cs rest c t on.small in
+        let is_followed = all_has (IsFollowed setting source) cs c on.due t.there in
+        record {
+          state = subst (State setting source k (settled ++ c ∷ [])) (sym grown) (state_settle setting source k settled cs rest c on.state t costs new (omega (arith, is, room)));
+          small = small (length (settled ++ c ∷ []) * 2 ^ 64) most (costs_more (length settled * 2 ^ 64) (length (settled ++ c ∷ []) * 2 ^ 64) rest least all);
+          found = AllByRecursion-append (IsFollowed setting source) settled (c ∷ []) on.found (is_followed, tt);
+          due = subst (AllByRecursion (IsFollowed setting source)) (sym grown)
+              (AllByRecursion-append (IsFollowed setting source) rest (extensions setting c next) (all_rest (IsFollowed setting source) cs rest c t on.due) (followed_further c is_followed));
+        }

@@ -1,0 +1,77 @@
+-- Walks from the source that are found, each with the run by which it is.
+use Rattle.std.specs.Prelude.{◌≡◌, ◌⊎◌, ℕ, ◌+◌, Bool, true, false, ◌&&◌, ◌==◌, List, [], ◌∷◌, ◌++◌, map}
+use Rattle.std.specs.List.{filter}
+use Rattle.gc_base.specs.declared.walk.Step.{Step}
+use Rattle.gc_prod.specs.declared.moves.Move.{Move}
+use Rattle.gc_prod.specs.declared.moves.Pair.{Pair}
+use Rattle.gc_prod.specs.declared.moves.RunMove.{RunMove}
+use Rattle.gc_prod.specs.Leading.{pair, target_of, steps_of}
+use Rattle.gc_prod.specs.Products.{Setting, moves}
+use Rattle.gc_search.specs.Entries.{Entry, entry, AtMost, LexLess}
+use Rattle.gc_search.specs.Passages.{Has, Passage}
+
+-- a walk from the source: the pair at which it arrives, its cost and its steps, and the moves of its run
+pub record FoundWalk : Type 0 where
+  pub at : Pair
+  pub cost : ℕ
+  pub steps : List Step
+  pub run : List RunMove
+
+-- the edges along some steps
+abbrev pub edges_along : List Step → List ℕ
+edges_along steps = map (λ step. step.edge) steps
+
+abbrev pub entry_of : FoundWalk → Entry
+entry_of a = entry a.cost (edges_along a.steps)
+
+abbrev pub same_pair : Pair → Pair → Bool
+same_pair p q = (p.node == q.node) && (p.state == q.state)
+
+-- those of some walks that arrive at a pair
+abbrev pub arrivals_at : List FoundWalk → Pair → List FoundWalk
+arrivals_at found q = filter (λ a. same_pair a.at q) found
+
+abbrev pub settled_at : List FoundWalk → Pair → List Entry
+settled_at found q = map entry_of (arrivals_at found q)
+
+-- a move as a passage, and the passages from a pair
+abbrev pub passage : Setting → Move → Passage Pair
+passage setting m = record { to = target_of m; cost = m.cost; edges = edges_along (steps_of setting m) }
+
+abbrev pub passages : Setting → Pair → List (Passage Pair)
+passages setting p = map (passage setting) (moves setting p.node p.state)
+
+-- the walk that stays at the source
+abbrev pub stays_at : ℕ → FoundWalk
+stays_at source = record { at = pair source 0; cost = 0; steps = []; run = [] }
+
+-- a walk, and a move behind it; and all that are so by the moves of its pair
+abbrev pub extended : Setting → FoundWalk → Move → FoundWalk
+extended setting a m = record { at = target_of m; cost = a.cost + m.cost; steps = a.steps ++ steps_of setting m; run = a.run ++ record { by = m.by; to = m.state } ∷ [] }
+
+abbrev pub extensions : Setting → FoundWalk → List Move → List FoundWalk
+extensions setting a ms = map (extended setting a) ms
+
+-- a test tells the first, or the second
+abbrev pub Told : Bool → Type 0 → Type 0 → Type 0
+Told true A B = A
+Told false A B = B
+
+-- of two lists of one length, the first is lower, or they are the same
+abbrev pub LexUpto : List ℕ → List ℕ → Type 0
+LexUpto xs ys = LexLess xs ys ⊎ (xs ≡ ys)
+
+-- two arrive at one pair along the same edges
+abbrev pub AreSame : FoundWalk → FoundWalk → Type 0
+AreSame a b = (a.at ≡ b.at) × (edges_along a.steps ≡ edges_along b.steps)
+
+-- a least one is taken out
+pub record TakesLeast (before : List FoundWalk) (taken : FoundWalk) (after : List FoundWalk) : Type 0 where
+  pub there : Has before taken
+  pub least : (x : FoundWalk) → Has before x → AtMost (entry_of taken) (entry_of x)
+  pub kept : (x : FoundWalk) → Has before x → Has after x ⊎ (taken ≡ x)
+  pub from : (x : FoundWalk) → Has after x → Has before x
+
+-- its edges are those of a walk that is settled at its pair
+abbrev pub IsSeen : List FoundWalk → FoundWalk → Type 0
+IsSeen settled a = (x : Entry) × Has (settled_at settled a.at) x × (x.edges ≡ edges_along a.steps)

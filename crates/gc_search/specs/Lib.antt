@@ -1,0 +1,5 @@
+pub mod Arrivals
+pub mod Entries
+pub mod Finding
+pub mod FirstWalks
+pub mod Passages

@@ -1,0 +1,132 @@
+ghost use Rattle.std.specs.Prelude.{◌≡◌, ◌+◌, ◌<◌, ◌≤◌, ◌^◌, ◌++◌, length, IfOk, OnOk};
+ghost use Rattle.gc_prod.specs.SymbolHops.{steps_by};
+ghost use Rattle.gc_search.specs.Arrivals.{edges_along, entry_of, stays_at, extended, AreSame, LexUpto, Told};
+ghost use Rattle.gc_search.specs.Entries.{AtMost, LexLess};
+
+use gc_base::{Id, Memory, Step, edges_cmp};
+use gc_prod::{By, Move, Pair, Product, RunMove};
+use std::alloc::Global;
+use std::marker::Model;
+
+// A walk from the source: where it arrives, at which cost, by which steps and by which run.
+#[derive(Drop)]
+pub(crate) struct Arrival {
+    pub(crate) at: Pair,
+    pub(crate) cost: u128,
+    pub(crate) steps: Vec<Step>,
+    pub(crate) run: Vec<RunMove>,
+}
+
+impl Model for Arrival {
+    ghost use Rattle.gc_search.specs.Arrivals.{FoundWalk};
+
+    ghost Value = { FoundWalk };
+
+    ghost view = { λ a. record { at = a.at; cost = a.cost; steps = a.steps.items; run = a.run.items } };
+}
+
+impl Arrival {
+    // The walk that stays at the source.
+    pub(crate) fn start(alloc: Global, source: Id) -> Arrival
+        ensures { result ≡ stays_at source }
+    {
+        Arrival {
+            at: Pair {
+                node: source,
+                state: 0,
+            },
+            cost: 0,
+            steps: Vec::new(alloc),
+            run: Vec::new(alloc),
+        }
+    }
+
+    // Whether it comes before another or is level with it.
+    pub(crate) fn is_at_most(&self, other: &Arrival) -> bool
+        ensures { Told result (AtMost (entry_of self.now) (entry_of other.now)) (AtMost (entry_of other.now) (entry_of self.now)) }
+    {
+        if self.cost != other.cost {
+            return self.cost < other.cost;
+        }
+        let count = self.steps.len();
+        let other_count = other.steps.len();
+        if count != other_count {
+            return count < other_count;
+        }
+        is_lower_or_same(&self.steps, &other.steps)
+    }
+
+    // Whether it arrives where another does, along the same edges.
+    pub(crate) fn is_same(&self, other: &Arrival) -> bool
+        ensures { Told result (AreSame self.now other.now) (AreSame self.now other.now → ⊥) }
+    {
+        same_pair(&self.at, &other.at) && have_same_edges(&self.steps, &other.steps)
+    }
+
+    // It, and a move behind it.
+    pub(crate) fn extended(&self, alloc: Global, p: &Product, by: Move) -> Result<Arrival, Memory>
+        requires { self.now.cost + 2 ^ 64 ≤ 2 ^ 128 }
+        ensures exact { IfOk result (λ longer. longer ≡ extended p.now self.now by) }
+        ensures small { by.cost < 2 ^ 64 }
+    {
+        let mut steps = Vec::from_slice(alloc, &self.steps)?;
+        add_move(p, by.by, by.node, &mut steps)?;
+        let mut run = Vec::from_slice(alloc, &self.run)?;
+        run.push(RunMove {
+            by: by.by,
+            to: by.state,
+        })?;
+        Ok(Arrival {
+            at: Pair {
+                node: by.node,
+                state: by.state,
+            },
+            cost: self.cost + u128::from(by.cost),
+            steps,
+            run,
+        })
+    }
+}
+
+pub(crate) fn same_pair(a: &Pair, b: &Pair) -> bool
+    ensures { Told result (a.now ≡ b.now) (a.now ≡ b.now → ⊥) }
+{
+    a.node == b.node && a.state == b.state
+}
+
+// Whether the edges along the first of two lists of one length are lower or the same.
+fn is_lower_or_same(steps: &[Step], others: &[Step]) -> bool
+    requires { length steps.now ≡ length others.now }
+    ensures { Told result (LexUpto (edges_along steps.now) (edges_along others.now)) (LexLess (edges_along others.now) (edges_along steps.now)) }
+{
+    edges_cmp(steps, others).is_le()
+}
+
+fn have_same_edges(steps: &[Step], others: &[Step]) -> bool
+    ensures { Told result (edges_along steps.now ≡ edges_along others.now) (edges_along steps.now ≡ edges_along others.now → ⊥) }
+{
+    edges_cmp(steps, others).is_eq()
+}
+
+// Adds the steps that a walk takes by a move to a node.
+fn add_move(p: &Product, by: By, node: Id, steps: &mut Vec<Step>) -> Result<(), Memory>
+    ensures { OnOk result (steps.new.items ≡ steps.old.items ++ steps_by p.now.network by node) }
+{
+    match by {
+        By::Nothing => Ok(()),
+        By::Edge(edge) => {
+            steps.push(Step { edge, node })?;
+            Ok(())
+        }
+        By::Segment(i) => add_all(p.segment_steps(i), steps),
+    }
+}
+
+fn add_all(more: &[Step], steps: &mut Vec<Step>) -> Result<(), Memory>
+    ensures { OnOk result (steps.new.items ≡ steps.old.items ++ more.now) }
+{
+    for step in more {
+        steps.push(*step)?;
+    }
+    Ok(())
+}

@@ -1,0 +1,122 @@
+ghost use Rattle.std.specs.Prelude.{◌≡◌, ◌<◌, length, slice_get, Some, IfOk};
+ghost use Rattle.std.specs.Option.{option_copied, option_map};
+ghost use Rattle.gc_prod.specs.Leading.{pair};
+ghost use Rattle.gc_search.specs.Arrivals.{arrivals_at};
+ghost use Rattle.gc_search.specs.Finding.{walks_to, runs_to, potential_of};
+
+use crate::arrival::{Arrival, same_pair};
+use crate::settling::count_at;
+use gc_base::{Cost, Id, Memory, Sequence, Walk};
+use gc_prod::{Pair, Run};
+use std::marker::Model;
+
+/// The walks that a search finds from a source, by the node to which they lead. Contracts see the
+/// source, the number of the last state, and all walks in the order in which they are found.
+#[derive(Drop)]
+pub struct Found {
+    pub(crate) source: Id,
+    pub(crate) last: u32,
+    pub(crate) walks: Vec<Arrival>,
+}
+
+impl Model for Found {
+    ghost use Rattle.gc_search.specs.Finding.{Finding, AreFew};
+
+    ghost Value = { Finding };
+
+    ghost view = { λ f. record { source = f.source; last = f.last; walks = f.walks.items } };
+
+    ghost invariant = { λ f. AreFew f.walks.items };
+}
+
+impl Found {
+    /// How many walks lead to a node.
+    pub fn count(&self, target: Id) -> u32
+        ensures { result ≡ length (walks_to self.now target) }
+    {
+        let at = Pair {
+            node: target,
+            state: self.last,
+        };
+        count_at(&self.walks, &at) as u32
+    }
+
+    /// The cost of the i-th walk to a node, for a number below the count.
+    pub fn cost(&self, target: Id, i: u32) -> Cost
+        requires { i < length (walks_to self.now target) }
+        ensures { option_map (λ w. w.cost) (slice_get (walks_to self.now target) i) ≡ Some result }
+    {
+        match self.arrival(target, i) {
+            None => Cost::of(0),
+            Some(arrival) => Cost::of(arrival.cost),
+        }
+    }
+
+    /// The i-th walk to a node, for a number below the count.
+    pub fn walk(&self, target: Id, i: u32) -> Result<Walk, Memory>
+        requires { i < length (walks_to self.now target) }
+        ensures { IfOk result (λ walk. option_map (λ w. w.walk) (slice_get (walks_to self.now target) i) ≡ Some walk) }
+    {
+        match self.arrival(target, i) {
+            None => Err(Memory),
+            Some(arrival) => {
+                let steps = Vec::from_slice(*arrival.steps.allocator(), &arrival.steps)?;
+                Ok(Walk {
+                    start: self.source,
+                    steps: Sequence::from_vec(steps),
+                })
+            }
+        }
+    }
+
+    /// A run that passes the i-th walk to a node at its cost, for a number below the count.
+    pub fn run(&self, target: Id, i: u32) -> Result<Run, Memory>
+        requires { i < length (walks_to self.now target) }
+        ensures { IfOk result (λ run. slice_get (runs_to self.now target) i ≡ Some run) }
+    {
+        match self.arrival(target, i) {
+            None => Err(Memory),
+            Some(arrival) => {
+                let run = Vec::from_slice(*arrival.run.allocator(), &arrival.run)?;
+                Ok(Sequence::from_vec(run))
+            }
+        }
+    }
+
+    /// The least cost at which a run reaches a node and a state, or `None` exactly where none does.
+    pub fn potential(&self, node: Id, state: u32) -> Option<Cost>
+        ensures { result ≡ potential_of self.now (pair node state) }
+    {
+        match nth_at(&self.walks, &Pair { node, state }, 0) {
+            None => None,
+            Some(arrival) => Some(Cost::of(arrival.cost)),
+        }
+    }
+
+    // The i-th that arrives at a node in the last state.
+    fn arrival(&self, target: Id, i: u32) -> Option<&Arrival>
+        ensures { option_copied result ≡ slice_get (arrivals_at self.now.walks (pair target self.now.last)) i }
+    {
+        let at = Pair {
+            node: target,
+            state: self.last,
+        };
+        nth_at(&self.walks, &at, i as usize)
+    }
+}
+
+// The i-th of those that arrive at a pair.
+fn nth_at<'a>(walks: &'a [Arrival], at: &Pair, i: usize) -> Option<&'a Arrival>
+    ensures { option_copied result ≡ slice_get (arrivals_at walks.now at.now) i }
+{
+    let mut left = i;
+    for known in walks {
+        if same_pair(&known.at, at) {
+            if left == 0 {
+                return Some(known);
+            }
+            left -= 1;
+        }
+    }
+    None
+}

@@ -1,0 +1,12 @@
+//! The first walks, in order. Others rely on this: the walks that are found to a node are exactly the
+//! first ones that conform to an expression, by cost, number of edges and edges. This crate knows of no
+//! query.
+#![tactic(auto)]
+
+mod arrival;
+mod found;
+mod searching;
+mod settling;
+
+pub use found::Found;
+pub use searching::search;

@@ -1,0 +1,51 @@
+ghost use Rattle.std.specs.Prelude.{◌<◌, ℕ, IfOk};
+ghost use Rattle.std.specs.List.{AllByRecursion};
+ghost use Rattle.gc_regx.specs.Expressions.{HasParts};
+ghost use Rattle.gc_regx.specs.Trees.{RegexTree, ARegex};
+ghost use Rattle.gc_automata.specs.Conformance.{Conforms};
+ghost use Rattle.gc_automata.specs.Machines.{IsAutomatonOf};
+ghost use Rattle.gc_automata.specs.Moves.{IsThere};
+ghost use Rattle.gc_prod.specs.declared.moves.Pair.{Pair};
+ghost use Rattle.gc_prod.specs.Segments.{AreSegments};
+ghost use Rattle.gc_search.specs.Finding.{walks_to, potential_of, IsFollowed, IsPotential};
+ghost use Rattle.gc_search.specs.FirstWalks.{AreFirst, IsRun};
+
+use crate::found::Found;
+use crate::settling::settle;
+use gc_automata::runs_pass_the_conforming_walks;
+use gc_base::{Id, Memory, Steps};
+use gc_prod::Product;
+use std::alloc::Global;
+use std::sync::ledger::Ledger;
+
+/// The first k walks from a node to every node that a run passes from the first state to the last, by
+/// cost, then by the number of edges, then by the edges one after another. Where the automaton is that
+/// of an expression, these are exactly the first k walks that conform to it. Each is found with a run
+/// that passes it at its cost, and for each node and state there is the least cost at which a run
+/// reaches them.
+pub fn search<L: Ledger>(
+    alloc: Global,
+    p: &Product,
+    source: Id,
+    k: u32,
+    steps: &mut Steps<L>,
+) -> Result<Found, Memory>
+    requires source { IsThere p.now.network source }
+    requires segments { AreSegments p.now.network.graph p.now.network.segments }
+    requires some { 0 < k }
+    ensures runs { IfOk result (λ found. (target : ℕ) → AreFirst (IsRun p.now) source target k (walks_to found target)) }
+    ensures conform { IfOk result (λ found. (tree : RegexTree ARegex) → HasParts tree → IsAutomatonOf tree p.now.machine
+        → (target : ℕ) → AreFirst (Conforms p.now.network tree) source target k (walks_to found target)) }
+    ensures passed { IfOk result (λ found. AllByRecursion (IsFollowed p.now source) found.walks) }
+    ensures potentials { IfOk result (λ found. (q : Pair) → IsPotential p.now source q (potential_of found q)) }
+{
+    runs_pass_the_conforming_walks();
+    let _nodes = p.nodes();
+    let last = p.states().saturating_sub(1);
+    let walks = settle(alloc, p, source, k, steps)?;
+    Ok(Found {
+        source,
+        last,
+        walks,
+    })
+}
