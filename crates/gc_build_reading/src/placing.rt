@@ -52,7 +52,8 @@ fn add_chain(
     naming: &Naming<'_>,
     parts: &[ConstructPart],
 ) -> Result<(), Memory>
-    ensures { OnOk result (places.new.items ≡ places.old.items ++ chain_places (scope naming.now) None (row (map (part_tree (names_of naming.now)) parts.now))) }
+    ensures { OnOk result (places.new.items
+        ≡ places.old.items ++ chain_places (scope naming.now) None (row (map (part_tree (names_of naming.now)) parts.now))) }
 {
     let mut left = None;
     for i in 0..parts.len() {

@@ -131,7 +131,8 @@ impl Told {
         labels: &NameList,
         assigns: &AssignList,
     ) -> Result<(), Memory>
-        ensures { OnOk result (self.new ≡ with_stored (scope naming.now) self.old var labels.now (row (map (assign_tree (names_of naming.now)) assigns.now.items))) }
+        ensures { OnOk result (self.new ≡ with_stored (scope naming.now) self.old var labels.now
+            (row (map (assign_tree (names_of naming.now)) assigns.now.items))) }
     {
         add_labels(&mut self.labels, var, labels)?;
         add_assignments(&mut self.assignments, naming, var, assigns)?;
