@@ -6,16 +6,16 @@ use Rattle.gc_build_descriptions.specs.declared.described.Described.{Described}
 use Rattle.gc_build_numbers.specs.Numbers.{numbering}
 use Rattle.gc_build_numbers.specs.Settings.{Setting}
 use Rattle.gc_build_numbers.specs.declared.numbered.Numbering.{Numbering}
-use Rattle.gc_build_recipe.specs.declared.recipe.Recipe.{Recipe}
+use Rattle.gc_build_recipe.specs.Recipes.{Recipe}
 use Rattle.gc_spec.specs.PropertyGraph.{PropertyGraph}
 use Rattle.gc_sets.specs.Claims.{IsClaimed}
 use Rattle.gc_build.specs.Constructed.{IsAfter, IsBuilt, IsSound, IsUnfit, claims, claims_by}
 
 module _ (s : Setting) (r : Recipe) (next : ℕ) (n : Numbering) (is : n ≡ numbering s r.variables)
-    (defined : first_fault s n.variables r.assignments.items ≡ None) (after : ℕ) (fits : IsAfter next n.next (Some after)) where
+    (defined : first_fault s n.variables r.assignments ≡ None) (after : ℕ) (fits : IsAfter next n.next (Some after)) where
   sound : IsSound s r next
   sound = record {
-    defined = subst (λ m. first_fault s m.variables r.assignments.items ≡ None) is defined;
+    defined = subst (λ m. first_fault s m.variables r.assignments ≡ None) is defined;
     room = subst (λ m. next + m.next ≤ 9007199254740992) is (subst (λ k. k ≤ 9007199254740992) fits.0 fits.1);
   }
 

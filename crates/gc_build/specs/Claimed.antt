@@ -9,7 +9,7 @@ use Rattle.gc_build_numbers.specs.Settings.{Setting}
 use Rattle.gc_build_numbers.specs.declared.numbered.Element.{Element}
 use Rattle.gc_ppg.specs.declared.shape.Kind.{Kind}
 use Rattle.gc_ppg.specs.declared.shape.Kind.TheVariants as kind
-use Rattle.gc_build_recipe.specs.declared.chain.Chain.{Chain}
+use Rattle.gc_build_recipe.specs.Recipes.{Chain}
 use Rattle.gc_build_recipe.specs.declared.variable.Grouping.{Grouping}
 use Rattle.gc_build_recipe.specs.declared.variable.Grouping.TheVariants as by
 use Rattle.gc_build_recipe.specs.declared.variable.Variable.{Variable}

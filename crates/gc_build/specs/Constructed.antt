@@ -8,7 +8,7 @@ use Rattle.gc_build_descriptions.specs.declared.fault.Fault.{Fault}
 use Rattle.gc_build_numbers.specs.Numbers.{numbering}
 use Rattle.gc_build_numbers.specs.Settings.{Setting}
 use Rattle.gc_build_numbers.specs.declared.numbered.Numbered.{Numbered}
-use Rattle.gc_build_recipe.specs.declared.recipe.Recipe.{Recipe}
+use Rattle.gc_build_recipe.specs.Recipes.{Recipe}
 use Rattle.gc_spec.specs.PropertyGraph.{PropertyGraph}
 use Rattle.gc_sets.specs.Claims.{Claims, IsClaimed, IsOutcome}
 use Rattle.gc_build.specs.declared.built.Built.{Built}
@@ -27,12 +27,12 @@ needed s r = (numbering s r.variables).next
 
 -- the first assignment that is undefined on a row, if one is
 abbrev pub fault : Setting → Recipe → Option Fault
-fault s r = first_fault s (elements s r) r.assignments.items
+fault s r = first_fault s (elements s r) r.assignments
 
 -- what is claimed, where the variables have these elements with these descriptions, and new ones have identities from the next one on
 abbrev pub claims_by : Setting → Recipe → (next : ℕ) → List Numbered → List Described → Claims
 claims_by s r next numbered described =
-    all_claims (record { setting = s; variables = r.variables; numbered = numbered; described = described; next = next }) r.chains.items r.graphs
+    all_claims (record { setting = s; variables = r.variables; numbered = numbered; described = described; next = next }) r.chains r.graphs
 
 abbrev pub claims : Setting → Recipe → (next : ℕ) → Claims
 claims s r next = claims_by s r next (elements s r) (map (described_variable s r (elements s r)) r.variables)

@@ -3,11 +3,10 @@ use Rattle.std.specs.Prelude.{ℕ, ◌+◌, Bool, true, false, ◌&&◌, List, [
 use Rattle.std.specs.List.{list_all, list_any}
 use Rattle.std.specs.Option.{unwrap_or}
 use Rattle.gc_base.specs.declared.place.Sym.{Sym}
-use Rattle.gc_expr.specs.Views.{numbered_expr}
-use Rattle.gc_expr.specs.declared.expr.Expr.{Expr}
+use Rattle.gc_expr.specs.Trees.{TreeOf, AnExpr}
 use Rattle.gc_build_numbers.specs.Settings.{Setting}
 use Rattle.gc_build_numbers.specs.declared.numbered.Element.{Element}
-use Rattle.gc_build_recipe.specs.declared.chain.Chain.{Chain}
+use Rattle.gc_build_recipe.specs.Recipes.{Chain}
 use Rattle.gc_rows.specs.Rows.{datum_at, lists}
 use Rattle.gc_rows.specs.declared.datum.Datum.{Datum}
 use Rattle.gc_rows.specs.declared.datum.Datum.TheVariants.{Stored}
@@ -41,9 +40,9 @@ is_yes t = false
 abbrev pub when_context : Making → (place : ℕ) → List Binding → Context
 when_context m place row = record { row = row; reads = m.setting.reads; graphs = m.setting.graphs; made = all_made m place }
 
-abbrev pub holds : Option Expr → Context → Bool
+abbrev pub holds : Option (TreeOf Sym AnExpr) → Context → Bool
 holds None ctx = true
-holds (Some condition) ctx = is_yes (truth_of ctx [] (numbered_expr condition))
+holds (Some condition) ctx = is_yes (truth_of ctx [] condition)
 
 -- the instance of a chain on a row at a place is kept
 abbrev pub keeps : Making → Chain → (place : ℕ) → List Binding → Bool

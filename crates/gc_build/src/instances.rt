@@ -1,8 +1,9 @@
 ghost use Rattle.std.specs.Prelude.{◌≡◌, ◌&&◌, IfOk, Some, is_some};
 ghost use Rattle.std.specs.List.{list_all};
-ghost use Rattle.std.specs.Option.{option_copied};
+ghost use Rattle.std.specs.Option.{option_copied, option_map};
 ghost use Rattle.gc_build.specs.Kept.{has_paths, has_places, holds, is_stored, is_yes, keeps, when_context};
 ghost use Rattle.gc_build.specs.Makings.{identity_at};
+ghost use Rattle.gc_expr.specs.Views.{numbered_expr};
 ghost use Rattle.gc_rows.specs.Rows.{datum_at};
 
 use crate::made::all_made;
@@ -77,7 +78,7 @@ fn holds<L: Ledger>(
     row: &Row,
     steps: &mut Steps<L>,
 ) -> Result<bool, Memory>
-    ensures { IfOk result (λ is_true. is_true ≡ holds condition.now (when_context making.now place row.now)) }
+    ensures { IfOk result (λ is_true. is_true ≡ holds (option_map numbered_expr condition.now) (when_context making.now place row.now)) }
 {
     match condition {
         None => Ok(true),
@@ -93,7 +94,7 @@ fn is_true<L: Ledger>(
     row: &Row,
     steps: &mut Steps<L>,
 ) -> Result<bool, Memory>
-    ensures { IfOk result (λ is_true. is_true ≡ holds (Some condition.now) (when_context making.now place row.now)) }
+    ensures { IfOk result (λ is_true. is_true ≡ holds (Some (numbered_expr condition.now)) (when_context making.now place row.now)) }
 {
     let setting = making.setting;
     let made = all_made(making, place)?;

@@ -7,7 +7,7 @@ use Rattle.std.proofs.lemmas.List.{flat_map_more}
 use Rattle.std.proofs.Math.Seq.{take-suc}
 use Rattle.gc_build_descriptions.specs.Faults.{faults_among, lesser}
 use Rattle.gc_build_descriptions.specs.declared.fault.Fault.{Fault}
-use Rattle.gc_build_recipe.specs.declared.change.Assignment.{Assignment}
+use Rattle.gc_build_recipe.specs.Recipes.{Assignment}
 use Rattle.gc_values.specs.declared.val.Val.{Val}
 use Rattle.gc_values.specs.declared.val.Val.TheVariants.{Set, Element, Walked, Undefined}
 

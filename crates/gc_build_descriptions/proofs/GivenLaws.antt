@@ -9,8 +9,7 @@ use Rattle.gc_base.specs.declared.place.Sym.{Sym}
 use Rattle.gc_build_numbers.specs.Settings.{Setting}
 use Rattle.gc_build_numbers.specs.declared.numbered.Element.{Element}
 use Rattle.gc_build_numbers.specs.declared.numbered.Numbered.{Numbered}
-use Rattle.gc_build_recipe.specs.declared.change.Assignment.{Assignment}
-use Rattle.gc_build_recipe.specs.declared.recipe.Recipe.{Recipe}
+use Rattle.gc_build_recipe.specs.Recipes.{Assignment, Recipe}
 use Rattle.gc_build_recipe.specs.declared.variable.Variable.{Variable}
 use Rattle.gc_values.specs.Descriptions.{Description}
 use Rattle.gc_build_descriptions.specs.Described.{described, of_variable, start_of, with_assigned, with_label, without_label, without_property}
@@ -40,15 +39,15 @@ given_at s variables a x place e t h i =
 
 described_at : (s : Setting) (r : Recipe) (variables : List Numbered) (v : Variable) (place : ℕ) (e : Element)
     → place < length (elements_of variables v.var) → e ≡ get_or (elements_of variables v.var) place e
-    → described_with s r (map (given s variables) r.assignments.items) v place e ≡ described s r v e
+    → described_with s r (map (given s variables) r.assignments) v place e ≡ described s r v e
 described_at s r variables v place e h i =
     ap (λ d. fold without_property (fold without_label d (of_variable (λ l. l.var) v.var r.lost_labels)) (of_variable (λ p. p.var) v.var r.lost_properties))
     (fold_of_mapped (with_given place) (with_assigned s e.group.rows) (given s variables) (λ g. g.var.0 == v.var.0)
     (λ d a t. ap (λ values. record d { properties = put d.properties (record { name = a.property; values = values }) }) (given_at s variables a v.var place e t h i))
-    (fold with_label (start_of s v.start e.group.rows) (of_variable (λ l. l.var) v.var r.labels)) r.assignments.items)
+    (fold with_label (start_of s v.start e.group.rows) (of_variable (λ l. l.var) v.var r.labels)) r.assignments)
 
 pub described_so : (s : Setting) (r : Recipe) (variables : List Numbered) (givens : List Given) (v : Variable) (elements : List Element) (place : ℕ) (e : Element) (d : Description)
-    → givens ≡ map (given s variables) r.assignments.items → elements ≡ elements_of variables v.var → place < length elements → e ≡ get_or elements place e
+    → givens ≡ map (given s variables) r.assignments → elements ≡ elements_of variables v.var → place < length elements → e ≡ get_or elements place e
     → d ≡ described_with s r givens v place e → d ≡ described s r v e
 described_so s r variables givens v elements place e d g own h i so =
     so

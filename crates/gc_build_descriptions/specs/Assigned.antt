@@ -2,11 +2,10 @@
 use Rattle.std.specs.Prelude.{ℕ, List, [], map}
 use Rattle.std.specs.Option.{unwrap_or}
 use Rattle.std.specs.Prelude.{slice_get}
-use Rattle.gc_expr.specs.Views.{numbered_expr}
 use Rattle.gc_expr.specs.declared.expr.Fold.TheVariants.{Collect}
 use Rattle.gc_group.specs.Folds.{folded}
 use Rattle.gc_build_numbers.specs.Settings.{Setting, on_row}
-use Rattle.gc_build_recipe.specs.declared.change.Assignment.{Assignment}
+use Rattle.gc_build_recipe.specs.Recipes.{Assignment}
 use Rattle.gc_rows.specs.declared.row.Binding.{Binding}
 use Rattle.gc_values.specs.Contexts.{Context}
 use Rattle.gc_values.specs.declared.val.Val.{Val}
@@ -23,7 +22,7 @@ contexts s places = map (λ place. on_row s (row_at s place)) places
 
 -- the values of an assignment on the rows of a group
 abbrev pub assigned_values : Setting → Assignment → List ℕ → List Val
-assigned_values s a places = values_over (contexts s places) (numbered_expr a.value)
+assigned_values s a places = values_over (contexts s places) a.value
 
 -- what a group is given: the union of the values on its rows, or no value where it is undefined on a row
 abbrev pub assigned : Setting → Assignment → List ℕ → Val

@@ -10,10 +10,9 @@ use Rattle.gc_group.specs.Folds.{literals_of}
 use Rattle.gc_build_numbers.specs.Settings.{Setting, on_row}
 use Rattle.gc_build_numbers.specs.declared.numbered.Element.{Element}
 use Rattle.gc_build_numbers.specs.declared.numbered.Numbered.{Numbered}
-use Rattle.gc_build_recipe.specs.declared.change.Assignment.{Assignment}
+use Rattle.gc_build_recipe.specs.Recipes.{Assignment, Recipe}
 use Rattle.gc_build_recipe.specs.declared.change.LabelOf.{LabelOf}
 use Rattle.gc_build_recipe.specs.declared.change.PropertyOf.{PropertyOf}
-use Rattle.gc_build_recipe.specs.declared.recipe.Recipe.{Recipe}
 use Rattle.gc_build_recipe.specs.declared.variable.Variable.{Variable}
 use Rattle.gc_values.specs.Descriptions.{Description, Seen, variable_described}
 use Rattle.gc_build_descriptions.specs.Assigned.{assigned, row_at}
@@ -61,7 +60,7 @@ done s r x places start =
     (fold without_label
     (fold (with_assigned s places)
     (fold with_label start (of_variable (λ l. l.var) x r.labels))
-    (of_variable (λ a. a.var) x r.assignments.items))
+    (of_variable (λ a. a.var) x r.assignments))
     (of_variable (λ l. l.var) x r.lost_labels))
     (of_variable (λ p. p.var) x r.lost_properties)
 
@@ -75,6 +74,6 @@ described_variable s r variables v = record { var = v.var; descriptions = map (d
 
 -- descriptions of all variables, or the fault of the first assignment that has one
 abbrev pub Describes : Setting → Recipe → List Numbered → Result (List Described) Refusal → Type 0
-Describes s r variables (Ok all) = (first_fault s variables r.assignments.items ≡ None) × (all ≡ map (described_variable s r variables) r.variables)
-Describes s r variables (Err (refusal.Fault f)) = first_fault s variables r.assignments.items ≡ Some f
+Describes s r variables (Ok all) = (first_fault s variables r.assignments ≡ None) × (all ≡ map (described_variable s r variables) r.variables)
+Describes s r variables (Err (refusal.Fault f)) = first_fault s variables r.assignments ≡ Some f
 Describes s r variables (Err refusal.Memory) = ⊤

@@ -6,7 +6,7 @@ use Rattle.gc_base.specs.declared.place.Sym.{Sym}
 use Rattle.gc_build_numbers.specs.Settings.{Setting}
 use Rattle.gc_build_numbers.specs.declared.numbered.Element.{Element}
 use Rattle.gc_build_numbers.specs.declared.numbered.Numbered.{Numbered}
-use Rattle.gc_build_recipe.specs.declared.change.Assignment.{Assignment}
+use Rattle.gc_build_recipe.specs.Recipes.{Assignment}
 use Rattle.gc_values.specs.declared.val.Val.{Val}
 use Rattle.gc_values.specs.declared.val.Val.TheVariants.{Undefined}
 use Rattle.gc_build_descriptions.specs.Assigned.{assigned_values}

@@ -8,8 +8,7 @@ use Rattle.gc_group.specs.Folds.{literals_of}
 use Rattle.gc_build_numbers.specs.Settings.{Setting}
 use Rattle.gc_build_numbers.specs.declared.numbered.Element.{Element}
 use Rattle.gc_build_numbers.specs.declared.numbered.Numbered.{Numbered}
-use Rattle.gc_build_recipe.specs.declared.change.Assignment.{Assignment}
-use Rattle.gc_build_recipe.specs.declared.recipe.Recipe.{Recipe}
+use Rattle.gc_build_recipe.specs.Recipes.{Assignment, Recipe}
 use Rattle.gc_build_recipe.specs.declared.variable.Variable.{Variable}
 use Rattle.gc_values.specs.Descriptions.{Description}
 use Rattle.gc_build_descriptions.specs.Assigned.{assigned}

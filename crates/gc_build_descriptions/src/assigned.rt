@@ -33,7 +33,7 @@ pub(crate) fn assigned_values<L: Ledger>(
     places: &[u64],
     steps: &mut Steps<L>,
 ) -> Result<Vec<Val>, Memory>
-    requires { map plain aggregates.now ≡ aggregations (numbered_expr assignment.now.value) }
+    requires { map plain aggregates.now ≡ aggregations assignment.now.value }
     ensures { IfOk result (λ values. values.items ≡ assigned_values setting.now assignment.now places.now) }
 {
     let folded = all_aggregated(setting, aggregates, places, steps)?;

@@ -36,7 +36,7 @@ fn all_described<L: Ledger>(
     givens: &[Given<'_>],
     steps: &mut Steps<L>,
 ) -> Result<DescribedList, Memory>
-    requires { givens.now ≡ map (given setting.now numbering.now.variables) recipe.now.assignments.items }
+    requires { givens.now ≡ map (given setting.now numbering.now.variables) recipe.now.assignments }
     ensures { IfOk result (λ all. all ≡ map (described_variable setting.now recipe.now numbering.now.variables) recipe.now.variables) }
 {
     let mut all = DescribedList::new(setting.alloc);
@@ -59,7 +59,7 @@ fn descriptions<L: Ledger>(
     givens: &[Given<'_>],
     steps: &mut Steps<L>,
 ) -> Result<DescriptionList, Memory>
-    requires { givens.now ≡ map (given setting.now numbering.now.variables) recipe.now.assignments.items }
+    requires { givens.now ≡ map (given setting.now numbering.now.variables) recipe.now.assignments }
     ensures { IfOk result (λ all. all ≡ map (described setting.now recipe.now variable.now) (elements_of numbering.now.variables variable.now.var)) }
 {
     let mut all = DescriptionList::new(setting.alloc);

@@ -1,5 +1,6 @@
 use gc_base::{Name, Sequence, Sym};
 use gc_expr::Expr;
+use std::marker::Model;
 
 /// A property that a variable is given. Its token is the property's word.
 #[derive(Debug, Drop)]
@@ -8,6 +9,17 @@ pub struct Assignment {
     pub token: u32,
     pub property: Name,
     pub value: Expr,
+}
+
+impl Model for Assignment {
+    ghost use Rattle.gc_expr.specs.Views.{numbered_expr};
+    ghost use Rattle.gc_build_recipe.specs.Recipes.{Assignment, assignment_code};
+
+    ghost Value = { Assignment };
+
+    ghost coded = { assignment_code };
+
+    ghost view = { λ a. record { var = a.var; token = a.token; property = a.property; value = numbered_expr a.value } };
 }
 
 /// A label of a variable.

@@ -1,0 +1,2 @@
+pub mod ExpressionCodes
+pub mod Recipes
