@@ -8,3 +8,4 @@ pub mod Order
 pub mod Settle
 pub mod Turns
 pub mod WalkFacts
+pub mod WorkLaws
