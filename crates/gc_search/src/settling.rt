@@ -93,10 +93,7 @@ pub(crate) fn settle<L: Ledger>(
     let mut settled = Vec::new(alloc);
     let mut pending = Vec::new(alloc);
     pending.push(Arrival::start(alloc, source))?;
-    for _ in 0..u64::MAX {
-        if pending.is_empty() {
-            return Ok(settled);
-        }
+    'turns: while !pending.is_empty() {
         let next = take_least(&mut pending);
         let seen = is_seen(&settled, &next);
         let count = count_at(&settled, &next.at);
@@ -105,5 +102,5 @@ pub(crate) fn settle<L: Ledger>(
             settled.push(next)?;
         }
     }
-    Err(Memory)
+    Ok(settled)
 }
