@@ -3,6 +3,7 @@ pub mod ConformLaws
 pub mod First
 pub mod FirstLaws
 pub mod Flat
+pub mod KeyLaws
 pub mod LoopLaws
 pub mod Order
 pub mod Settle
