@@ -3,8 +3,10 @@ pub mod ConformLaws
 pub mod First
 pub mod FirstLaws
 pub mod Flat
+pub mod KeyLaws
 pub mod LoopLaws
 pub mod Order
 pub mod Settle
 pub mod Turns
 pub mod WalkFacts
+pub mod WorkLaws

@@ -128,12 +128,18 @@ has_from_remove (y ∷ xs) zero c x h g = inr g
 has_from_remove (y ∷ xs) (suc b) c x h (inl e) = inl e
 has_from_remove (y ∷ xs) (suc b) c x h (inr g) = inr (has_from_remove xs b c x h g)
 
+length_remove : {X : Type 0} (xs : List X) (b : ℕ) (c : X) → IsAt xs b c → length xs ≡ suc (length (remove xs b))
+length_remove [] b c h = elim h [ ]
+length_remove (y ∷ xs) zero c h = omega arith
+length_remove (y ∷ xs) (suc b) c h = omega (arith, length_remove xs b c h)
+
 pub takes_least : (xs : List FoundWalk) (b : ℕ) (c : FoundWalk) → IsAt xs b c → IsLeastTo xs b (length xs) → TakesLeast xs c (remove xs b)
 takes_least xs b c h least = record {
   there = has_from_at xs b c h;
   least = λ x g. let a = at_from_has xs x g in least c h a.0 a.1 x a.2;
   kept = λ x g. has_remove_cases xs b c x h g;
   from = λ x g. has_from_remove xs b c x h g;
+  shorter = length_remove xs b c h;
 }
 
 pub take_push : {X : Type 0} (xs : List X) (i : ℕ) (x : X) → i < length xs → x ≡ get_or xs i x → take (suc i) xs ≡ take i xs ++ x ∷ []

@@ -1,5 +1,5 @@
 -- Walks from the source that are found, each with the run by which it is.
-use Rattle.std.specs.Prelude.{◌≡◌, ◌⊎◌, ℕ, ◌+◌, Bool, true, false, ◌&&◌, ◌==◌, List, [], ◌∷◌, ◌++◌, map}
+use Rattle.std.specs.Prelude.{length, suc, ◌≡◌, ◌⊎◌, ℕ, ◌+◌, Bool, true, false, ◌&&◌, ◌==◌, List, [], ◌∷◌, ◌++◌, map}
 use Rattle.std.specs.List.{filter}
 use Rattle.gc_base.specs.declared.walk.Step.{Step}
 use Rattle.gc_prod.specs.declared.moves.Move.{Move}
@@ -71,6 +71,7 @@ pub record TakesLeast (before : List FoundWalk) (taken : FoundWalk) (after : Lis
   pub least : (x : FoundWalk) → Has before x → AtMost (entry_of taken) (entry_of x)
   pub kept : (x : FoundWalk) → Has before x → Has after x ⊎ (taken ≡ x)
   pub from : (x : FoundWalk) → Has after x → Has before x
+  pub shorter : length before ≡ suc (length after)
 
 -- its edges are those of a walk that is settled at its pair
 abbrev pub IsSeen : List FoundWalk → FoundWalk → Type 0

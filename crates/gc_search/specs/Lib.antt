@@ -1,4 +1,5 @@
 pub mod Arrivals
+pub mod Counting
 pub mod Entries
 pub mod Finding
 pub mod FirstWalks

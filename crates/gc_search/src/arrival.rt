@@ -4,7 +4,7 @@ ghost use Rattle.gc_search.specs.Arrivals.{edges_along, entry_of, stays_at, exte
 ghost use Rattle.gc_search.specs.Entries.{AtMost, LexLess};
 
 use gc_base::{Id, Memory, Step, edges_cmp};
-use gc_prod::{By, Move, Pair, Product, RunMove};
+use gc_prod::{By, Keyed, Move, Pair, Product, RunMove};
 use std::alloc::Global;
 use std::marker::Model;
 
@@ -23,6 +23,14 @@ impl Model for Arrival {
     ghost Value = { FoundWalk };
 
     ghost view = { λ a. record { at = a.at; cost = a.cost; steps = a.steps.items; run = a.run.items } };
+}
+
+impl Keyed for Arrival {
+    ghost key_of = { λ a. a.at.node };
+
+    fn key(&self) -> u64 {
+        self.at.node.get()
+    }
 }
 
 impl Arrival {

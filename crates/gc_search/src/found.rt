@@ -7,16 +7,16 @@ ghost use Rattle.gc_search.specs.Finding.{walks_to, runs_to, potential_of};
 use crate::arrival::{Arrival, same_pair};
 use crate::settling::count_at;
 use gc_base::{Cost, Id, Memory, Sequence, Walk};
-use gc_prod::{Pair, Run};
+use gc_prod::{ByKey, Pair, Run};
 use std::marker::Model;
 
 /// The walks that a search finds from a source, by the node to which they lead. Contracts see the
-/// source, the number of the last state, and all walks in the order in which they are found.
+/// source, the number of the last state, and all walks, by the nodes at which they arrive.
 #[derive(Drop)]
 pub struct Found {
     pub(crate) source: Id,
     pub(crate) last: u32,
-    pub(crate) walks: Vec<Arrival>,
+    pub(crate) walks: ByKey<Arrival>,
 }
 
 impl Model for Found {
@@ -24,9 +24,9 @@ impl Model for Found {
 
     ghost Value = { Finding };
 
-    ghost view = { λ f. record { source = f.source; last = f.last; walks = f.walks.items } };
+    ghost view = { λ f. record { source = f.source; last = f.last; walks = f.walks } };
 
-    ghost invariant = { λ f. AreFew f.walks.items };
+    ghost invariant = { λ f. AreFew f.walks };
 }
 
 impl Found {
@@ -38,7 +38,7 @@ impl Found {
             node: target,
             state: self.last,
         };
-        count_at(&self.walks, &at) as u32
+        count_at(self.around(&at), &at) as u32
     }
 
     /// The cost of the i-th walk to a node, for a number below the count.
@@ -87,10 +87,18 @@ impl Found {
     pub fn potential(&self, node: Id, state: u32) -> Option<Cost>
         ensures { result ≡ potential_of self.now (pair node state) }
     {
-        match nth_at(&self.walks, &Pair { node, state }, 0) {
+        let at = Pair { node, state };
+        match nth_at(self.around(&at), &at, 0) {
             None => None,
             Some(arrival) => Some(Cost::of(arrival.cost)),
         }
+    }
+
+    // Walks among which are all that arrive at a pair.
+    fn around(&self, at: &Pair) -> &[Arrival]
+        ensures { arrivals_at result.now at.now ≡ arrivals_at self.now.walks at.now }
+    {
+        self.walks.at(at.node.get())
     }
 
     // The i-th that arrives at a node in the last state.
@@ -101,7 +109,7 @@ impl Found {
             node: target,
             state: self.last,
         };
-        nth_at(&self.walks, &at, i as usize)
+        nth_at(self.around(&at), &at, i as usize)
     }
 }
 

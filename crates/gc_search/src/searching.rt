@@ -1,4 +1,4 @@
-ghost use Rattle.std.specs.Prelude.{◌<◌, ℕ, IfOk};
+ghost use Rattle.std.specs.Prelude.{◌+◌, ◌*◌, ◌<◌, ◌≤◌, ℕ, IfOk};
 ghost use Rattle.std.specs.List.{AllByRecursion};
 ghost use Rattle.gc_regx.specs.Expressions.{HasParts};
 ghost use Rattle.gc_regx.specs.Trees.{RegexTree, ARegex};
@@ -7,6 +7,7 @@ ghost use Rattle.gc_automata.specs.Machines.{IsAutomatonOf};
 ghost use Rattle.gc_automata.specs.Moves.{IsThere};
 ghost use Rattle.gc_prod.specs.declared.moves.Pair.{Pair};
 ghost use Rattle.gc_prod.specs.Segments.{AreSegments};
+ghost use Rattle.gc_search.specs.Counting.{most_moves};
 ghost use Rattle.gc_search.specs.Finding.{walks_to, potential_of, IsFollowed, IsPotential};
 ghost use Rattle.gc_search.specs.FirstWalks.{AreFirst, IsRun};
 
@@ -14,7 +15,7 @@ use crate::found::Found;
 use crate::settling::settle;
 use gc_automata::runs_pass_the_conforming_walks;
 use gc_base::{Id, Memory, Steps};
-use gc_prod::Product;
+use gc_prod::{ByKey, Product};
 use std::alloc::Global;
 use std::sync::ledger::Ledger;
 
@@ -22,7 +23,8 @@ use std::sync::ledger::Ledger;
 /// cost, then by the number of edges, then by the edges one after another. Where the automaton is that
 /// of an expression, these are exactly the first k walks that conform to it. Each is found with a run
 /// that passes it at its cost, and for each node and state there is the least cost at which a run
-/// reaches them.
+/// reaches them. It takes no more steps than k times the transitions, times the number of all nodes,
+/// edges and segments.
 pub fn search<L: Ledger>(
     alloc: Global,
     p: &Product,
@@ -38,11 +40,13 @@ pub fn search<L: Ledger>(
         → (target : ℕ) → AreFirst (Conforms p.now.network tree) source target k (walks_to found target)) }
     ensures passed { IfOk result (λ found. AllByRecursion (IsFollowed p.now source) found.walks) }
     ensures potentials { IfOk result (λ found. (q : Pair) → IsPotential p.now source q (potential_of found q)) }
+    ensures few { steps.new ≤ steps.old + k * most_moves p.now }
 {
     runs_pass_the_conforming_walks();
     let _nodes = p.nodes();
     let last = p.states().saturating_sub(1);
-    let walks = settle(alloc, p, source, k, steps)?;
+    let settled = settle(alloc, p, source, k, steps)?;
+    let walks = ByKey::of(settled)?;
     Ok(Found {
         source,
         last,

@@ -1,9 +1,10 @@
-ghost use Rattle.std.specs.Prelude.{◌≡◌, ◌+◌, ◌≤◌, ◌^◌, ◌<◌, ◌++◌, ℕ, length, vec_len, IfOk, OnOk};
+ghost use Rattle.std.specs.Prelude.{◌≡◌, ◌+◌, ◌*◌, ◌≤◌, ◌^◌, ◌<◌, ◌++◌, ℕ, length, vec_len, IfOk, OnOk};
 ghost use Rattle.std.specs.List.{AllByRecursion};
 ghost use Rattle.gc_prod.specs.declared.moves.Pair.{Pair};
 ghost use Rattle.gc_prod.specs.Leading.{pair};
 ghost use Rattle.gc_prod.specs.Products.{moves};
 ghost use Rattle.gc_search.specs.Arrivals.{settled_at, passages, extensions, IsSeen, TakesLeast, Told};
+ghost use Rattle.gc_search.specs.Counting.{degree, most_moves};
 ghost use Rattle.gc_search.specs.Entries.{IsMoveCost};
 ghost use Rattle.gc_search.specs.Finding.{IsFollowed};
 ghost use Rattle.gc_search.specs.Passages.{Has, Passage, Reach, IsFirstK};
@@ -64,6 +65,7 @@ fn push_all<L: Ledger>(
     requires { last.now.cost + 2 ^ 64 ≤ 2 ^ 128 }
     ensures exact { OnOk result (pending.new.items ≡ pending.old.items ++ extensions p.now last.now (moves p.now last.now.at.node last.now.at.state)) }
     ensures small { OnOk result ((most : ℕ) → last.now.cost + 2 ^ 64 ≤ most → AllByRecursion (λ a. a.cost ≤ most) pending.old.items → AllByRecursion (λ a. a.cost ≤ most) pending.new.items) }
+    ensures few { steps.new ≤ steps.old + degree p.now last.now }
 {
     for i in 0..usize::MAX {
         match p.move_at(last.at.node, last.at.state, i, steps) {
@@ -86,14 +88,12 @@ pub(crate) fn settle<L: Ledger>(
     requires costs { (q : Pair) (m : Passage Pair) → Has (passages p.now q) m → IsMoveCost m.cost m.edges }
     ensures first { IfOk result (λ settled. (q : Pair) → IsFirstK k (Reach (passages p.now) (pair source 0) q) (settled_at settled.items q)) }
     ensures followed { IfOk result (λ settled. AllByRecursion (IsFollowed p.now source) settled.items) }
+    ensures few { steps.new ≤ steps.old + k * most_moves p.now }
 {
     let mut settled = Vec::new(alloc);
     let mut pending = Vec::new(alloc);
     pending.push(Arrival::start(alloc, source))?;
-    for _ in 0..u64::MAX {
-        if pending.is_empty() {
-            return Ok(settled);
-        }
+    'turns: while !pending.is_empty() {
         let next = take_least(&mut pending);
         let seen = is_seen(&settled, &next);
         let count = count_at(&settled, &next.at);
@@ -102,5 +102,5 @@ pub(crate) fn settle<L: Ledger>(
             settled.push(next)?;
         }
     }
-    Err(Memory)
+    Ok(settled)
 }

@@ -1,8 +1,8 @@
-use Rattle.std.proofs.Common.{◌≡◌, ◌+◌, ◌≤◌, ◌++◌, ◌∷◌, [], ◌∙◌, ap, sym, subst, drop, arith, List}
+use Rattle.std.proofs.Common.{◌≡◌, ◌+◌, ◌≤◌, ◌++◌, ◌∷◌, [], ◌∙◌, ap, sym, subst, drop, arith, List, Some, length}
 use Rattle.std.specs.List.{AllByRecursion, slice_get}
 use Rattle.gc_base.proofs.SetLaws.{AllByRecursion-append}
 use Rattle.gc_prod.specs.Products.{moves}
-use Rattle.gc_prod.proofs.HopLists.{mapped_more}
+use Rattle.gc_prod.proofs.HopLists.{left_at, mapped_more}
 use Rattle.gc_search.specs.Arrivals.{FoundWalk, extended, extensions}
 use Rattle.gc_search.proofs.LoopLaws.{extensions_end}
 use Rattle.gc_search.proofs.settling.push_all.Goals as goal
@@ -22,12 +22,15 @@ loop-i-preserved g c =
     let x = extended p last c.in-Some.by in
     let grown : c.push.new.self.items ≡ pending ++ x ∷ [] =
     c.in_ok-push-in-Some.ensures.items ∙ ap (λ (a : FoundWalk). pending ++ a ∷ []) c.in_ok-extended-in-Some.ensures.exact in
+    let here : slice_get ms c.loop-i.i ≡ Some c.in-Some.by =
+    sym (ap (λ (a : FoundWalk). slice_get (moves p a.at.node a.at.state) c.loop-i.i) c.last.view_is) ∙ sym c.in-Some.ensures.exact in
     record {
       exact =
           ap (λ (l : List FoundWalk). l ++ extensions p last (drop (c.loop-i.i + 1) ms)) grown
           ∙ mapped_more (extended p last) pending ms c.loop-i.i c.in-Some.by _
-          (sym (ap (λ (a : FoundWalk). slice_get (moves p a.at.node a.at.state) c.loop-i.i) c.last.view_is) ∙ sym c.in-Some.ensures.exact) c.loop-i.invariant.exact;
+          here c.loop-i.invariant.exact;
       small = λ most le all.
           subst (λ (l : List FoundWalk). AllByRecursion (λ a. a.cost ≤ most) l) (sym grown)
           (AllByRecursion-append (λ (a : FoundWalk). a.cost ≤ most) pending (x ∷ []) (c.loop-i.invariant.small most le all) (omega (arith, le, c.extended.ensures.small), tt));
+      few = omega (arith, c.loop-i.invariant.few, c.in-Some.ensures.step, ap length (left_at ms c.loop-i.i c.in-Some.by here));
     }

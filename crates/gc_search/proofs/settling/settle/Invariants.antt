@@ -1,5 +1,14 @@
+use Rattle.std.proofs.Common.{◌+◌, ◌-◌, ◌*◌, ◌≤◌, length}
+use Rattle.gc_search.specs.Counting.{asked, most_moves}
 use Rattle.gc_search.proofs.Turns.{IsOn}
 use Rattle.gc_search.proofs.settling.settle.Given as goal
 
-abbrev pub invariant-loop : goal.invariant-loop
-invariant-loop g l = IsOn l.p l.fn.source l.k l.settled.items l.pending.items
+abbrev pub invariant-turns : goal.invariant-turns
+invariant-turns g l = record {
+  on : IsOn l.p l.fn.source l.k l.settled.items l.pending.items;
+  few : l.steps ≤ l.initial.steps + asked l.p l.settled.items;
+}
+
+-- the moves that may still be asked for, and the walks that are pending
+abbrev pub decreases-turns : goal.decreases-turns
+decreases-turns g l = (l.k * most_moves l.p - asked l.p l.settled.items) + length l.pending.items
