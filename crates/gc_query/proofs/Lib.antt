@@ -1,7 +1,11 @@
-pub mod AnswerLaws
-pub mod BasicLaws
-pub mod ItemLaws
-pub mod OneAnswer
+mod BasicsMade
+mod BuiltRests
+mod Outcomes
+mod PlanRuns
+mod QueriesWhole
+mod StepLaws
+pub mod AllOf
+pub mod BuiltParts
+pub mod Joining
 pub mod OneGraph
-pub mod PlainBlocks
-pub mod PlanRuns
+pub mod QueryParts

@@ -11,7 +11,7 @@ use Rattle.gc_alg.specs.declared.atom.AtomWhat.{AtomWhat}
 use Rattle.gc_alg.specs.declared.atom.AtomWhat.TheVariants as atom
 use Rattle.gc_exec.specs.Runs.{AsksNoWalk, EachRuns, NamesNoWalk, Runs, queries_of}
 use Rattle.gc_plan.specs.TextPlans.{atoms_plan, plan_of, plan_of_part, plan_of_parts, plans_of, plans_of_conjunct, with_conjuncts, with_later}
-use Rattle.gc_query.specs.NodeQueries.{asks_no_walk, no_walks}
+use Rattle.gc_query.specs.Built.{asks_no_walk, no_walks}
 
 left : (a b : Bool) → (a && b) ≡ true → a ≡ true
 left true b h = refl

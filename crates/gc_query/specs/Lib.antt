@@ -1,3 +1,7 @@
-pub mod NodeAnswers
-pub mod NodeQueries
-pub mod OnlyBasics
+pub mod Answered
+pub mod Basics
+pub mod Built
+pub mod Queries
+pub mod Sessions
+pub mod Standings
+pub mod Steps

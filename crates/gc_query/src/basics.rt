@@ -1,51 +1,88 @@
-ghost use Rattle.std.specs.Prelude.{◌≡◌, ◌&&◌};
-ghost use Rattle.std.specs.Option.{option_copied, option_map};
-ghost use Rattle.gc_base.specs.PropertyLists.{is_nil};
-ghost use Rattle.gc_expr.specs.Views.{Names};
-ghost use Rattle.gc_ast.specs.QueryViews.{basic_tree, file_trees, query_tree, statement_tree};
-ghost use Rattle.gc_query.specs.OnlyBasics.{only, only_basic, query_basic, statement_basic};
+ghost use Rattle.std.specs.Prelude.{◌≡◌, ◌≤◌, [], true, IfOk};
+ghost use Rattle.gc_alg.specs.Tables.{IsTableOfBlock};
+ghost use Rattle.gc_alg.specs.Views.{block_tree};
+ghost use Rattle.gc_ast.specs.QueryViews.{basic_tree};
+ghost use Rattle.gc_exec.specs.Runs.{setting};
+ghost use Rattle.gc_lower.specs.Blocks.{block_of};
+ghost use Rattle.gc_query.specs.Answered.{IsAnswered, Rises, names_in, outcome_of, scope_in, standing_in};
+ghost use Rattle.gc_query.specs.Basics.{DenotesBasic};
+ghost use Rattle.gc_query.specs.Built.{no_walks};
 
-use crate::items::{is_nil, only};
-use gc_ast::{Basic, File, HeadList, NextTermList, Query, Statement, Term};
+use crate::fault::{Fault, QueryRefusal};
+use crate::made::Made;
+use crate::session::Session;
+use gc_alg::Block;
+use gc_ast::Basic;
+use gc_base::{Memory, Steps};
+use gc_build::{Built, Refusal, construct};
+use gc_build_numbers::Setting;
+use gc_build_reading::recipe;
+use gc_exec::run;
+use gc_lower::lower_match;
+use gc_plan::{plan, the_plan_of_a_block_means_it};
+use gc_rows::{Row, Table};
+use std::sync::ledger::Ledger;
 
-/// The CONSTRUCT that is all of a file, if one is.
-pub fn only_basic(file: &File) -> Option<&Basic>
-    ensures { option_map (basic_tree file.now.names) (option_copied result) ≡ only_basic (file_trees file.now) }
+/// What a CONSTRUCT comes to on the table of its MATCH, which has to look for no walk, where the next
+/// identity is `next`.
+pub(crate) fn basic_made<L: Ledger>(
+    session: &Session<'_>,
+    basic: &Basic,
+    next: u64,
+    steps: &mut Steps<L>,
+) -> Result<Made, QueryRefusal>
+    requires walks { no_walks (block_of (scope_in session.now) [] (basic_tree (names_in session.now) basic.now)) ≡ true }
+    requires most { next ≤ 9007199254740992 }
+    ensures rises { Rises next result }
+    ensures due { IsAnswered (DenotesBasic (scope_in session.now) (standing_in session.now next) (basic_tree (names_in session.now) basic.now)) result }
 {
-    match only(&file.statements) {
-        Some(statement) => statement_basic(statement),
-        None => None,
-    }
+    let lowered = lower_match(session.alloc, session.checked, basic)?;
+    let table = table_of(session, &lowered.block, steps)?;
+    let bound = table.schema().as_slice();
+    let recipe = recipe(session.alloc, session.checked, basic, bound)?;
+    let setting = Setting {
+        alloc: session.alloc,
+        table: &table,
+        reads: &lowered.block.reads,
+        graphs: session.graphs,
+    };
+    made_of(construct(&setting, &recipe, next, steps), basic.token)
 }
 
-// The CONSTRUCT that is all of a statement, if one is.
-fn statement_basic(statement: &Statement) -> Option<&Basic>
-    ensures { (names : Names) → option_map (basic_tree names) (option_copied result) ≡ statement_basic (statement_tree names statement.now) }
+// The table of a block.
+fn table_of<L: Ledger>(
+    session: &Session<'_>,
+    block: &Block,
+    steps: &mut Steps<L>,
+) -> Result<Table, Memory>
+    requires { no_walks (block_tree block.now) ≡ true }
+    ensures { IfOk result (IsTableOfBlock (setting session.now.graphs.now (block_tree block.now) [])) }
 {
-    match statement {
-        Statement::Ask(query) => query_basic(query),
-        Statement::View { name: _, query: _ } => None,
-    }
+    the_plan_of_a_block_means_it();
+    let plan = plan(session.alloc, block)?;
+    let given = Row::empty(session.alloc);
+    run(session.alloc, &plan, block, session.graphs, &given, steps)
 }
 
-// The same of a query.
-#[tactic(auto, using(crate::proofs::BasicLaws::of_term), unfolding(gc_ast::specs::QueryViews::query_by, gc_ast::specs::QueryViews::head_by, gc_ast::specs::QueryViews::term_by, gc_ast::specs::QueryViews::next_term_by, gc_ast::specs::QueryViews::basic_by))]
-fn query_basic(query: &Query) -> Option<&Basic>
-    ensures { (names : Names) → option_map (basic_tree names) (option_copied result) ≡ query_basic (query_tree names query.now) }
+// What a CONSTRUCT at a token comes to, as the outcome of a query.
+fn made_of(outcome: Result<Option<Built>, Refusal>, token: u32) -> Result<Made, QueryRefusal>
+    ensures { result ≡ outcome_of token outcome }
 {
-    if !is_one_term(&query.heads, &query.rest) {
-        return None;
+    match outcome {
+        Ok(Some(built)) => Ok(Made {
+            graph: built.graph,
+            next: built.next,
+        }),
+        Ok(None) => Err(QueryRefusal::Fault(Fault::NoGraph)),
+        Err(Refusal::Fault(fault)) => Err(QueryRefusal::Fault(Fault::Undefined {
+            at: fault.at,
+            row: fault.row,
+            why: fault.why,
+        })),
+        Err(Refusal::IdsSpent(needed)) => Err(QueryRefusal::Fault(Fault::IdsSpent {
+            at: token,
+            needed,
+        })),
+        Err(Refusal::Memory) => Err(QueryRefusal::Memory),
     }
-    match &query.first {
-        Term::Basic(basic) => Some(basic),
-        Term::Graph(_) => None,
-        Term::Query(_) => None,
-    }
-}
-
-// Whether a query has no heads and no later terms.
-fn is_one_term(heads: &HeadList, rest: &NextTermList) -> bool
-    ensures { result ≡ (is_nil heads.now.items && is_nil rest.now.items) }
-{
-    is_nil(heads) && is_nil(rest)
 }

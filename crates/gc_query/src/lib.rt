@@ -1,10 +1,19 @@
-//! What a query file answers. So far that is the nodes which one CONSTRUCT names of its MATCH. Others
-//! rely on `answer`. This crate reads no text and knows of no folder.
+//! What the statements of a query file come to. Others rely on `step`, which evaluates one statement over the
+//! graphs of a session as the definitions say, and on `is_built`. This crate reads no text and knows of no
+//! folder.
 #![tactic(auto)]
 
-mod answers;
+mod agreeing;
 mod basics;
 mod blocks;
-mod items;
+mod built;
+mod combining;
+mod fault;
+mod made;
+mod queries;
+mod session;
+mod steps;
 
-pub use answers::answer;
+pub use built::is_built;
+pub use fault::{Fault, QueryRefusal};
+pub use steps::step;

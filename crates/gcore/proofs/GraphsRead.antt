@@ -1,5 +1,5 @@
 -- Graph files that are read one after another.
-use Rattle.std.proofs.Common.{◌≡◌, ◌&&◌, ◌||◌, not, Bool, true, false, cond, nat_eq, nat_lt, nat_le, ℕ, zero, suc, ◌+◌, ◌<◌, ◌≤◌, List, [], ◌∷◌, ◌++◌, length, take, drop, get_or, map, append-nil, append_assoc, Option, Some, None, Result, Ok, Err, refl, sym, ap, ◌∙◌, subst, arith, inl, inr}
+use Rattle.std.proofs.Common.{◌≡◌, ◌&&◌, ◌||◌, not, Bool, true, false, cond, nat_eq, nat_lt, nat_le, ℕ, zero, suc, ◌+◌, ◌<◌, ◌≤◌, List, [], ◌∷◌, ◌++◌, length, take, drop, get_or, map, fold, max, append-nil, append_assoc, Option, Some, None, Result, Ok, Err, refl, sym, ap, ◌∙◌, subst, arith, inl, inr}
 use Rattle.std.specs.Prelude.{IfSome, IsOk, ◌⊎◌}
 use Rattle.std.specs.Result.{IsErr, IsErrAnd}
 use Rattle.std.specs.List.{AllByRecursion, prefix_len}
@@ -13,14 +13,15 @@ use Rattle.gc_spec.specs.Coherence.{shapes_of}
 use Rattle.gc_spec.specs.PropertyGraph.{PropertyGraph}
 use Rattle.gc_catalog.specs.NamedGraphs.{NamedGraphs, number_of}
 use Rattle.gc_json.specs.FileElements.{Seen}
+use Rattle.gc_ppg.specs.FreeIds.{first_free}
 use Rattle.gcore.specs.Endings.{IsTurnOfGraph}
 use Rattle.gcore.specs.GraphSteps.{ReadsGraphs, StopsReadingGraphs}
-use Rattle.gcore.specs.Outcomes.{then_due, graph_due, graphs_due}
+use Rattle.gcore.specs.Outcomes.{free_above, then_due, graph_due, graphs_due}
 use Rattle.gcore.specs.Pairs.{has_name, names_differ, are_graphs}
 use Rattle.gcore.specs.Steps.{Reading, StopsReadingGraph}
 use Rattle.gcore.specs.declared.pair.Pair.{Pair}
 use Rattle.gcore.specs.declared.stop.Stop.{Stop}
-use Rattle.gcore.specs.declared.stop.Stop.TheVariants.{Usage, Unread, TooLarge, Refused, Text, Sorts, NotBuilt, Unwritten, OutOfMemory}
+use Rattle.gcore.specs.declared.stop.Stop.TheVariants.{Usage, Unread, TooLarge, Refused, Text, Sorts, NotBuilt, Undefined, IdsSpent, NoGraph, Unwritten, OutOfMemory}
 use Rattle.gcore.proofs.CommandLaws.{drop_item}
 
 -- the items before a place, with the item there
@@ -124,8 +125,19 @@ stops told pairs before p after seen gs first middle last (Refused refusal file)
 stops told pairs before p after seen gs first middle last (Text refusal) split stands due le h = absurd h
 stops told pairs before p after seen gs first middle last (Sorts rule place) split stands due le h = absurd h
 stops told pairs before p after seen gs first middle last NotBuilt split stands due le h = due_of told pairs before p after seen gs NotBuilt split stands due h
+stops told pairs before p after seen gs first middle last (Undefined why place row) split stands due le h = absurd h
+stops told pairs before p after seen gs first middle last (IdsSpent place needed) split stands due le h = absurd h
+stops told pairs before p after seen gs first middle last NoGraph split stands due le h = absurd h
 stops told pairs before p after seen gs first middle last Unwritten split stands due le h = absurd h
 stops told pairs before p after seen gs first middle last OutOfMemory split stands due le h = tt
+
+-- the identities above all of one graph more
+pub free_more : (gs : List PropertyGraph) (g : PropertyGraph) → free_above (gs ++ g ∷ []) ≡ max (free_above gs) (first_free g)
+free_more gs g = from gs 0
+  where
+    from : (hs : List PropertyGraph) (n : ℕ) → fold (λ m (h : PropertyGraph). max m (first_free h)) n (hs ++ g ∷ []) ≡ max (fold (λ m (h : PropertyGraph). max m (first_free h)) n hs) (first_free g)
+    from [] n = refl
+    from (h ∷ hs) n = from hs (max n (first_free h))
 
 -- what a step that stops for a cause answers
 pub reads_stop : (reading : Reading) (pairs : List Pair) (result : Result NamedGraphs Stop) (stop : Stop) → IsErr result → IsErrAnd result (λ refusal. refusal ≡ stop) → StopsReadingGraphs reading pairs stop → ReadsGraphs reading pairs result

@@ -4,3 +4,5 @@ pub mod RunLaws
 pub mod QueryFileLaws
 pub mod SortedFiles
 pub mod TextPlaces
+pub mod SessionLaws
+pub mod StatementLaws

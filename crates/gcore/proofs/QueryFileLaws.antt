@@ -1,5 +1,6 @@
 -- What a query file asks for, by the statements that its tokens spell or the place of its refusal.
-use Rattle.std.proofs.Common.{◌≡◌, ℕ, List, Option, Some, None, Result, Ok, Err, refl, ap, ◌∙◌, arith, slice_get}
+use Rattle.std.proofs.Common.{◌≡◌, ℕ, Bool, true, false, List, Option, Some, None, Result, Ok, Err, refl, ap, ◌∙◌, arith, slice_get}
+use Rattle.std.specs.Prelude.{if◌then◌else◌}
 use Rattle.gc_base.specs.declared.place.Place.{Place}
 use Rattle.gc_lex.specs.declared.refusal.LexRefusal.{LexRefusal}
 use Rattle.gc_lex.specs.declared.refusal.LexRefusal.TheVariants as lex
@@ -14,27 +15,30 @@ use Rattle.gc_parse.specs.Parses.{parsed}
 use Rattle.gc_sorts.specs.declared.breach.Breach.{Breach}
 use Rattle.gc_sorts.specs.declared.breach.SortRule.{SortRule}
 use Rattle.gc_sorts.specs.SortRules.{first_breach}
-use Rattle.gcore.specs.Outcomes.{asked_of, built, query_of, then_due}
-use Rattle.gcore.specs.QueryFiles.{breach_place, file_over, first_place, query_file_at, query_file_in, sorted_at, token_place, unless_broken}
+use Rattle.gcore.specs.Outcomes.{asked_of, query_of, then_due}
+use Rattle.gcore.specs.QueryFiles.{PlacedFile, breach_place, file_over, first_place, query_file_at, query_file_in, sorted_at, token_place, unless_broken}
 use Rattle.gc_lower.specs.Namings.{QueryFile}
 use Rattle.gc_parse_source.specs.Sources.{names_among}
-use Rattle.gc_query.specs.NodeQueries.{NodeQuery, node_query}
-use Rattle.gcore.specs.declared.stop.Stop.TheVariants.{Sorts, Text}
+use Rattle.gc_query.specs.Built.{is_built}
+use Rattle.gcore.specs.declared.stop.Stop.TheVariants.{NotBuilt, Sorts, Text}
 use Rattle.gcore.specs.declared.text_refusal.TextRefusal.{TextRefusal}
 use Rattle.gcore.specs.declared.text_refusal.TextRefusal.TheVariants.{TooDeep, Syntax}
 use Rattle.gcore.proofs.TextPlaces.{places_count, item_there, deep_within}
 use Rattle.gc_parse.proofs.ParsedLaws.{parsed_spelled, parsed_deep, parsed_refused, parsed_spells}
 
-not_text : (o : Option NodeQuery) (refusal : TextRefusal) → built o ≡ Err (Text refusal) → ⊥
-not_text None refusal h = cc
-not_text (Some query) refusal h = cc
+abbrev at_places : List Place → QueryFile → PlacedFile
+at_places places file = record { file = file; places = places }
 
-not_sorts : (o : Option NodeQuery) (rule : SortRule) (place : Place) → built o ≡ Err (Sorts rule place) → ⊥
-not_sorts None rule place h = cc
-not_sorts (Some query) rule place h = cc
+not_text : (t : Bool) (p : PlacedFile) (refusal : TextRefusal) → (if t then Ok p else Err NotBuilt) ≡ Err (Text refusal) → ⊥
+not_text true p refusal h = cc
+not_text false p refusal h = cc
+
+not_sorts : (t : Bool) (p : PlacedFile) (rule : SortRule) (place : Place) → (if t then Ok p else Err NotBuilt) ≡ Err (Sorts rule place) → ⊥
+not_sorts true p rule place h = cc
+not_sorts false p rule place h = cc
 
 sorted_no_text : (places : List Place) (file : QueryFile) (found : Option Breach) (refusal : TextRefusal) → then_due (unless_broken places file found) asked_of ≡ Err (Text refusal) → ⊥
-sorted_no_text places file None refusal h = not_text (node_query file) refusal h
+sorted_no_text places file None refusal h = not_text (is_built file) (at_places places file) refusal h
 sorted_no_text places file (Some breach) refusal h = cc
 
 module _ (graphs : List (List ℕ)) where
@@ -54,7 +58,7 @@ module _ (graphs : List (List ℕ)) where
 
   breach_of : (places : List Place) (file : QueryFile) (found : Option Breach) (rule : SortRule) (place : Place) → then_due (unless_broken places file found) asked_of ≡ Err (Sorts rule place)
       → (breach : Breach) × (found ≡ Some breach) × (rule ≡ breach.rule) × (place ≡ breach_place places breach)
-  breach_of places file None rule place h = absurd (not_sorts (node_query file) rule place h)
+  breach_of places file None rule place h = absurd (not_sorts (is_built file) (at_places places file) rule place h)
   breach_of places file (Some breach) rule place h = (breach, refl, cc, cc)
 
   broken_parse : (names : List (List ℕ)) (places : List Place) (r : Result (List (Tree AStatement)) ParseRefusal) (rule : SortRule) (place : Place) → then_due (query_file_at graphs names places r) asked_of ≡ Err (Sorts rule place)
@@ -103,7 +107,7 @@ module _ (graphs : List (List ℕ)) where
 
   -- the laws of query files
   pub asked_as_spelled : (text : List ℕ) (list : TokenList) (statements : List (Tree AStatement)) → lexed text ≡ Ok list → IsDepthFault list.tokens None → SpellsFile list.tokens statements
-      → first_breach graphs (row statements) ≡ None → query_of graphs text ≡ asked_of (file_over graphs (names_among list.tokens) statements)
+      → first_breach graphs (row statements) ≡ None → query_of graphs text ≡ asked_of (at_places list.places (file_over graphs (names_among list.tokens) statements))
   asked_as_spelled text list statements h none spelled sorted =
       asked_as_sorted text list statements h none spelled ∙ ap (λ found. then_due (unless_broken list.places (file_over graphs (names_among list.tokens) statements) found) asked_of) sorted
 

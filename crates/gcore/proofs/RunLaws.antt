@@ -1,22 +1,21 @@
 -- How a run ends, once its graphs are read.
 use Rattle.std.proofs.Common.{◌≡◌, ℕ, ◌≤◌, List, [], length, Option, None, Some, Result, Ok, Err, ap, ◌∙◌, subst, sym, refl, arith, inl, inr}
 use Rattle.std.specs.Result.{IsErr, IsErrAnd}
-use Rattle.std.specs.Prelude.{IfSome, IsOk, IsSomeAnd, ◌⊎◌}
+use Rattle.std.specs.Prelude.{IfSome, IsOk, IsSomeAnd, if◌then◌else◌, true, false, ◌⊎◌}
 use Rattle.gc_base.specs.Faults.{Rose}
 use Rattle.gc_base.specs.Files.{Files}
-use Rattle.gc_lower.specs.Namings.{QueryFile}
+use Rattle.std.specs.Io.KnownBytes.{append_known}
 use Rattle.gc_spec.specs.PropertyGraph.{PropertyGraph}
-use Rattle.gc_query.specs.NodeAnswers.{IsAnswering}
-use Rattle.gc_query.specs.NodeQueries.{NodeQuery, node_query}
-use Rattle.gcore.specs.Outcomes.{IsTextDue, IsTextOf, asked_of, built, file_due, graph_names, graphs_due, outcome, printed, query_due, query_file_due, query_limit, request, then_due}
-use Rattle.gcore.specs.Endings.{Answers, Call, Change, GainsDuePrefix, GainsNothing, HoldsAnswer, HoldsText, StopsFor, WritesAnswer, WritesText}
+use Rattle.gc_query.specs.Built.{is_built}
+use Rattle.gcore.specs.Outcomes.{IsAsked, PrintsFirst, Request, asked_of, file_due, graph_names, graphs_due, outcome, query_due, query_file_due, query_limit, request, texts, then_due}
+use Rattle.gcore.specs.Endings.{Answers, Call, Change, GainsDuePrefix, GainsNothing, HoldsAsked, HoldsText, RunsSession, StopsFor, WritesAsked}
 use Rattle.gcore.specs.GraphSteps.{StopsReadingGraphs}
-use Rattle.gcore.specs.QueryFiles.{query_file_of}
+use Rattle.gcore.specs.QueryFiles.{PlacedFile, query_file_of}
 use Rattle.gcore.specs.Steps.{StopsReadingQuery}
 use Rattle.gcore.specs.declared.command.Command.TheVariants.{Run}
 use Rattle.gcore.specs.declared.pair.Pair.{Pair}
 use Rattle.gcore.specs.declared.stop.Stop.{Stop}
-use Rattle.gcore.specs.declared.stop.Stop.TheVariants.{Usage, Unread, TooLarge, Refused, Text, Sorts, NotBuilt, Unwritten, OutOfMemory}
+use Rattle.gcore.specs.declared.stop.Stop.TheVariants.{Usage, Unread, TooLarge, Refused, Text, Sorts, NotBuilt, Undefined, IdsSpent, NoGraph, Unwritten, OutOfMemory}
 
 -- a sink that was not called
 abbrev pub still : ℕ → Option (List ℕ) → Change
@@ -32,38 +31,42 @@ module _ (query : List ℕ) (pairs : List Pair) where
   names = graph_names pairs
 
   -- what is asked, by the statements that are due
-  asked_by : (files : Files) (due : Result QueryFile Stop) → query_file_due names files query ≡ due → query_due names files query ≡ then_due due asked_of
+  asked_by : (files : Files) (due : Result PlacedFile Stop) → query_file_due names files query ≡ due → query_due names files query ≡ then_due due asked_of
   asked_by files due h = sym (then_then (file_due files query query_limit) (query_file_of names) asked_of) ∙ ap (λ d. then_due d asked_of) h
 
   -- what is due, once the graphs and the statements are read
-  due_of : (files : Files) (gs : List PropertyGraph) (due : Result QueryFile Stop) → graphs_due files [] pairs ≡ Ok gs → query_file_due names files query ≡ due
+  due_of : (files : Files) (gs : List PropertyGraph) (due : Result PlacedFile Stop) → graphs_due files [] pairs ≡ Ok gs → query_file_due names files query ≡ due
       → outcome (Some (Run query pairs)) files ≡ then_due (then_due due asked_of) (request gs)
   due_of files gs due a b =
       ap (λ d. then_due d (λ hs. then_due (query_due names files query) (request hs))) a ∙ ap (λ d. then_due d (request gs)) (asked_by files due b)
 
-  due_asked : (files : Files) (gs : List PropertyGraph) (file : QueryFile) (asked : Option NodeQuery) → graphs_due files [] pairs ≡ Ok gs → query_file_due names files query ≡ Ok file → node_query file ≡ asked
-      → outcome (Some (Run query pairs)) files ≡ then_due (built asked) (request gs)
-  due_asked files gs file asked a b same = due_of files gs (Ok file) a b ∙ ap (λ o. then_due (built o) (request gs)) same
+  due_asked : (files : Files) (gs : List PropertyGraph) (file : PlacedFile) (asked : Result PlacedFile Stop) → graphs_due files [] pairs ≡ Ok gs → query_file_due names files query ≡ Ok file → asked_of file ≡ asked
+      → outcome (Some (Run query pairs)) files ≡ then_due asked (request gs)
+  due_asked files gs file asked a b same = due_of files gs (Ok file) a b ∙ ap (λ o. then_due o (request gs)) same
 
-  -- a text that answers what is asked is due
-  text_due : (files : Files) (gs : List PropertyGraph) (file : QueryFile) (q : NodeQuery) (text : List ℕ) → graphs_due files [] pairs ≡ Ok gs → query_file_due names files query ≡ Ok file → node_query file ≡ Some q
-      → IsTextOf (record { graphs = gs; query = q }) text → IsTextDue (outcome (Some (Run query pairs)) files) text
-  text_due files gs file q text a b same is = subst (λ o. IsTextDue o text) (sym (due_asked files gs file (Some q) a b same)) is
+  -- what is asked for over loaded graphs, where it is built
+  abbrev over : List PropertyGraph → PlacedFile → Request
+  over gs q = record { graphs = gs; query = q }
 
-  -- a told room of `out` holds each text that answers what is asked
-  pub room_holds : (told : Option Files) (gs : List PropertyGraph) (file : QueryFile) (room : Option ℕ) → HoldsText room told (Some (Run query pairs))
-      → IfSome told (λ files. graphs_due files [] pairs ≡ Ok gs) → IfSome told (λ files. query_file_due names files query ≡ Ok file) → HoldsAnswer room gs (node_query file)
-  room_holds told gs file room h a b = by (node_query file) refl
+  asked_is : (files : Files) (gs : List PropertyGraph) (file q : PlacedFile) → graphs_due files [] pairs ≡ Ok gs → query_file_due names files query ≡ Ok file → asked_of file ≡ Ok q
+      → IsAsked (outcome (Some (Run query pairs)) files) (over gs q)
+  asked_is files gs file q a b same = due_asked files gs file (Ok q) a b same
+
+  -- a told room of `out` holds the texts of what is asked for
+  pub room_holds : (told : Option Files) (gs : List PropertyGraph) (file : PlacedFile) (room : Option ℕ) → HoldsText room told (Some (Run query pairs))
+      → IfSome told (λ files. graphs_due files [] pairs ≡ Ok gs) → IfSome told (λ files. query_file_due names files query ≡ Ok file) → HoldsAsked room gs (asked_of file)
+  room_holds told gs file room h a b = by (asked_of file) refl
     where
-      within : (o : Option Files) (q : NodeQuery) (x : ℕ) (text : List ℕ) → IsSomeAnd o (λ files. (t : List ℕ) → IsTextDue (outcome (Some (Run query pairs)) files) t → length t ≤ x)
-          → IfSome o (λ files. graphs_due files [] pairs ≡ Ok gs) → IfSome o (λ files. query_file_due names files query ≡ Ok file) → node_query file ≡ Some q
-          → IsTextOf (record { graphs = gs; query = q }) text → length text ≤ x
-      within None q x text holds c d same is = absurd holds
-      within (Some files) q x text holds c d same is = holds text (text_due files gs file q text c d same is)
+      within : (o : Option Files) (q : PlacedFile) (x : ℕ) (graphs : List PropertyGraph)
+          → IsSomeAnd o (λ files. (r : Request) (graphs : List PropertyGraph) → IsAsked (outcome (Some (Run query pairs)) files) r → PrintsFirst r graphs → length (texts graphs) ≤ x)
+          → IfSome o (λ files. graphs_due files [] pairs ≡ Ok gs) → IfSome o (λ files. query_file_due names files query ≡ Ok file) → asked_of file ≡ Ok q
+          → PrintsFirst (over gs q) graphs → length (texts graphs) ≤ x
+      within None q x graphs holds c d same first = absurd holds
+      within (Some files) q x graphs holds c d same first = holds (over gs q) graphs (asked_is files gs file q c d same) first
 
-      by : (asked : Option NodeQuery) → node_query file ≡ asked → HoldsAnswer room gs asked
-      by None same = tt
-      by (Some q) same = λ x here text is. within told q x text (h x here) a b same is
+      by : (asked : Result PlacedFile Stop) → asked_of file ≡ asked → HoldsAsked room gs asked
+      by (Err stop) same = tt
+      by (Ok q) same = λ x here graphs first. within told q x graphs (h x here) a b same first
 
   -- the stop that is due, once the graphs are read
   due_stop : (files : Files) (gs : List PropertyGraph) (stop : Stop) → graphs_due files [] pairs ≡ Ok gs → query_file_due names files query ≡ Err stop → outcome (Some (Run query pairs)) files ≡ Err stop
@@ -97,6 +100,9 @@ module _ (query : List ℕ) (pairs : List Pair) where
   query_stops (Some files) gs before middle after faults taken (Sorts rule place) graphs le h = ((refl, subst IsOk (sym graphs) refl), due_stop files gs (Sorts rule place) graphs h, refl)
   query_stops None gs before middle after faults taken NotBuilt graphs le h = (refl, tt, refl)
   query_stops (Some files) gs before middle after faults taken NotBuilt graphs le h = (refl, due_stop files gs NotBuilt graphs h, refl)
+  query_stops told gs before middle after faults taken (Undefined why place row) graphs le h = absurd h
+  query_stops told gs before middle after faults taken (IdsSpent place needed) graphs le h = absurd h
+  query_stops told gs before middle after faults taken NoGraph graphs le h = absurd h
   query_stops told gs before middle after faults taken Unwritten graphs le h = absurd h
   query_stops told gs before middle after faults taken OutOfMemory graphs le h = nothing_is_prefix told before after (still faults taken) refl
 
@@ -121,6 +127,9 @@ module _ (query : List ℕ) (pairs : List Pair) where
   graph_stops told before after faults taken (Sorts rule place) h = absurd h
   graph_stops None before after faults taken NotBuilt h = (refl, tt, refl)
   graph_stops (Some files) before after faults taken NotBuilt h = (refl, first_stop files NotBuilt h, refl)
+  graph_stops told before after faults taken (Undefined why place row) h = absurd h
+  graph_stops told before after faults taken (IdsSpent place needed) h = absurd h
+  graph_stops told before after faults taken NoGraph h = absurd h
   graph_stops told before after faults taken Unwritten h = absurd h
   graph_stops told before after faults taken OutOfMemory h = nothing_is_prefix told before after (still faults taken) refl
 
@@ -128,57 +137,69 @@ module _ (query : List ℕ) (pairs : List Pair) where
   abbrev call_of : Option Files → ℕ → ℕ → Change → Call
   call_of told before after out = record { command = Some (Run query pairs); files = told; faults_before = before; faults_after = after; out = out }
 
-  -- a query that is not built
-  unbuilt : (told : Option Files) (gs : List PropertyGraph) (file : QueryFile) (before after : ℕ) (out : Change) (result : Result (Unit {0}) Stop)
-      → IfSome told (λ files. graphs_due files [] pairs ≡ Ok gs) → IfSome told (λ files. query_file_due names files query ≡ Ok file) → node_query file ≡ None → WritesAnswer gs None out result
-      → Answers (call_of told before after out) result
-  unbuilt None gs file before after out (Err NotBuilt) a b same w = (refl, tt, w)
-  unbuilt (Some files) gs file before after out (Err NotBuilt) a b same w = (refl, due_asked files gs file None a b same, w)
-  unbuilt told gs file before after out (Err OutOfMemory) a b same w = nothing_is_prefix told before after out w
-  unbuilt told gs file before after out (Ok done) a b same w = absurd w
-  unbuilt told gs file before after out (Err Unwritten) a b same w = absurd w
-  unbuilt told gs file before after out (Err Usage) a b same w = absurd w
-  unbuilt told gs file before after out (Err (Unread name)) a b same w = absurd w
-  unbuilt told gs file before after out (Err (TooLarge name)) a b same w = absurd w
-  unbuilt told gs file before after out (Err (Refused refusal name)) a b same w = absurd w
-  unbuilt told gs file before after out (Err (Text refusal)) a b same w = absurd w
-  unbuilt told gs file before after out (Err (Sorts rule place)) a b same w = absurd w
+  module _ (told : Option Files) (gs : List PropertyGraph) (file : PlacedFile) (before after : ℕ) (out : Change)
+      (a : IfSome told (λ files. graphs_due files [] pairs ≡ Ok gs)) (b : IfSome told (λ files. query_file_due names files query ≡ Ok file)) where
+    -- the turn of the query file came
+    turn : (t : Option Files) → IfSome t (λ files. graphs_due files [] pairs ≡ Ok gs) → IfSome t (λ files. IsOk (graphs_due files [] pairs))
+    turn None c = tt
+    turn (Some files) c = subst IsOk (sym c) refl
 
-  -- a query that was answered
-  answered : (told : Option Files) (gs : List PropertyGraph) (file : QueryFile) (q : NodeQuery) (before after : ℕ) (out : Change) (result : Result (Unit {0}) Stop)
-      → IfSome told (λ files. graphs_due files [] pairs ≡ Ok gs) → IfSome told (λ files. query_file_due names files query ≡ Ok file) → node_query file ≡ Some q → WritesAnswer gs (Some q) out result
-      → Answers (call_of told before after out) result
-  answered None gs file q before after out (Ok done) a b same w = (refl, tt)
-  answered (Some files) gs file q before after out (Ok done) a b same w = (refl, (w.0, text_due files gs file q w.0 a b same w.1, w.2))
-  answered None gs file q before after out (Err Unwritten) a b same w = (refl, w.2.0, tt)
-  answered (Some files) gs file q before after out (Err Unwritten) a b same w = (refl, w.2.0, inr (w.0, text_due files gs file q w.0 a b same w.1, w.2.1))
-  answered told gs file q before after out (Err OutOfMemory) a b same w = nothing_is_prefix told before after out w
-  answered told gs file q before after out (Err Usage) a b same w = absurd w.2
-  answered told gs file q before after out (Err (Unread name)) a b same w = absurd w.2
-  answered told gs file q before after out (Err (TooLarge name)) a b same w = absurd w.2
-  answered told gs file q before after out (Err (Refused refusal name)) a b same w = absurd w.2
-  answered told gs file q before after out (Err (Text refusal)) a b same w = absurd w.2
-  answered told gs file q before after out (Err (Sorts rule place)) a b same w = absurd w.2
-  answered told gs file q before after out (Err NotBuilt) a b same w = absurd w.2
+    -- a query file that is not built
+    unbuilt : (t : Option Files) (stop : Stop) (result : Result (Unit {0}) Stop) → IfSome t (λ files. graphs_due files [] pairs ≡ Ok gs) → IfSome t (λ files. query_file_due names files query ≡ Ok file)
+        → asked_of file ≡ Err stop → stop ≡ NotBuilt → WritesAsked gs (Err stop) out result → Answers (call_of t before after out) result
+    unbuilt None stop (Err NotBuilt) c d same is w = (refl, tt, w.1)
+    unbuilt (Some files) stop (Err NotBuilt) c d same is w = (refl, due_asked files gs file (Err stop) c d same ∙ ap Err is, w.1)
+    unbuilt t stop (Err OutOfMemory) c d same is w = nothing_is_prefix t before after out w
+    unbuilt t stop (Ok done) c d same is w = let e = w.0 in absurd (cc)
+    unbuilt t stop (Err Unwritten) c d same is w = let e = w.0 in absurd (cc)
+    unbuilt t stop (Err (Undefined why place row)) c d same is w = let e = w.0 in absurd (cc)
+    unbuilt t stop (Err (IdsSpent place needed)) c d same is w = let e = w.0 in absurd (cc)
+    unbuilt t stop (Err NoGraph) c d same is w = let e = w.0 in absurd (cc)
+    unbuilt t stop (Err Usage) c d same is w = let e = w.0 in absurd (cc)
+    unbuilt t stop (Err (Unread name)) c d same is w = let e = w.0 in absurd (cc)
+    unbuilt t stop (Err (TooLarge name)) c d same is w = let e = w.0 in absurd (cc)
+    unbuilt t stop (Err (Refused refusal name)) c d same is w = let e = w.0 in absurd (cc)
+    unbuilt t stop (Err (Text refusal)) c d same is w = let e = w.0 in absurd (cc)
+    unbuilt t stop (Err (Sorts rule place)) c d same is w = let e = w.0 in absurd (cc)
 
-  -- what a call does that has read its graphs and its statements
-  pub written : (told : Option Files) (gs : List PropertyGraph) (file : QueryFile) (before after : ℕ) (out : Change) (result : Result (Unit {0}) Stop)
-      → IfSome told (λ files. graphs_due files [] pairs ≡ Ok gs) → IfSome told (λ files. query_file_due names files query ≡ Ok file) → WritesAnswer gs (node_query file) out result
-      → Answers (call_of told before after out) result
-  written told gs file before after out result a b w = by (node_query file) refl w
-    where
-      by : (asked : Option NodeQuery) → node_query file ≡ asked → WritesAnswer gs asked out result → Answers (call_of told before after out) result
-      by None same h = unbuilt told gs file before after out result a b same h
-      by (Some q) same h = answered told gs file q before after out result a b same h
+    -- a session that was run
+    ran : (t : Option Files) (q : PlacedFile) (result : Result (Unit {0}) Stop) → IfSome t (λ files. graphs_due files [] pairs ≡ Ok gs) → IfSome t (λ files. query_file_due names files query ≡ Ok file)
+        → asked_of file ≡ Ok q → RunsSession (over gs q) out result → Answers (call_of t before after out) result
+    ran None q (Ok done) c d same w = (refl, tt)
+    ran (Some files) q (Ok done) c d same w = (refl, (over gs q, w.0, asked_is files gs file q c d same, w.1, w.2))
+    ran None q (Err (Undefined why place row)) c d same w = ((refl, tt), tt)
+    ran (Some files) q (Err (Undefined why place row)) c d same w = ((refl, turn (Some files) c), (over gs q, asked_is files gs file q c d same, w))
+    ran None q (Err (IdsSpent place needed)) c d same w = ((refl, tt), tt)
+    ran (Some files) q (Err (IdsSpent place needed)) c d same w = ((refl, turn (Some files) c), (over gs q, asked_is files gs file q c d same, w))
+    ran None q (Err NoGraph) c d same w = ((refl, tt), tt)
+    ran (Some files) q (Err NoGraph) c d same w = ((refl, turn (Some files) c), (over gs q, asked_is files gs file q c d same, w))
+    ran None q (Err Unwritten) c d same w = (refl, w.0, tt)
+    ran (Some files) q (Err Unwritten) c d same w = (refl, w.0, inr (over gs q, asked_is files gs file q c d same, w.1))
+    ran None q (Err OutOfMemory) c d same w = tt
+    ran (Some files) q (Err OutOfMemory) c d same w = inr (over gs q, asked_is files gs file q c d same, w)
+    ran t q (Err Usage) c d same w = absurd w
+    ran t q (Err (Unread name)) c d same w = absurd w
+    ran t q (Err (TooLarge name)) c d same w = absurd w
+    ran t q (Err (Refused refusal name)) c d same w = absurd w
+    ran t q (Err (Text refusal)) c d same w = absurd w
+    ran t q (Err (Sorts rule place)) c d same w = absurd w
+    ran t q (Err NotBuilt) c d same w = absurd w
+
+    -- what a call does that has read its graphs and its query file
+    pub written : (result : Result (Unit {0}) Stop) → WritesAsked gs (asked_of file) out result → Answers (call_of told before after out) result
+    written result w = by (asked_of file) refl w
+      where
+        only : (stop : Stop) → asked_of file ≡ Err stop → stop ≡ NotBuilt
+        only stop h = elim (is_built file.file) as (λ t. (if t then Ok file else Err NotBuilt) ≡ Err stop → stop ≡ NotBuilt) [
+          | true ↦ λ e. cc
+          | false ↦ λ e. cc
+        ] h
+
+        by : (asked : Result PlacedFile Stop) → asked_of file ≡ asked → WritesAsked gs asked out result → Answers (call_of told before after out) result
+        by (Err stop) same h = unbuilt told stop result a b same (only stop same) h
+        by (Ok q) same h = ran told q result a b same h
 
 -- what a call that stops for a cause answers
 pub answers_stop : (call : Call) (result : Result (Unit {0}) Stop) (stop : Stop) → IsErr result → IsErrAnd result (λ refusal. refusal ≡ stop) → StopsFor call stop → Answers call result
 answers_stop call (Ok done) stop err same stops = absurd same
 answers_stop call (Err refusal) stop err same stops = subst (StopsFor call) (sym same) stops
-
--- a graph that answers a query, and whose text is written, writes an answer
-pub writes_answer : (graphs : List PropertyGraph) (asked : Option NodeQuery) (g : PropertyGraph) (out : Change) (result : Result (Unit {0}) Stop)
-    → IsAnswering graphs asked (Some g) → WritesText out (printed g) result → WritesAnswer graphs asked out result
-writes_answer graphs None g out result answer w = absurd answer
-writes_answer graphs (Some q) g out (Err OutOfMemory) answer w = w
-writes_answer graphs (Some q) g out result answer w = (printed g, record { graph = g; answer = answer; written = refl }, w)

@@ -4,7 +4,7 @@ use Rattle.std.specs.Option.{unwrap_or}
 use Rattle.gc_base.specs.declared.place.Place.{Place}
 use Rattle.gc_ast.specs.declared.file.File.{File}
 use Rattle.gc_ast.specs.QueryViews.{file_trees}
-use Rattle.gc_lower.specs.Namings.{QueryFile, file_of}
+use Rattle.gc_lower.specs.Namings.{QueryFile}
 use Rattle.gc_parse_source.specs.Sources.{names_among}
 use Rattle.gc_lex.specs.declared.token.Token.{Token}
 use Rattle.gc_parse.specs.Parses.{parsed}
@@ -13,7 +13,7 @@ use Rattle.gc_sorts.specs.declared.breach.SortRule.{SortRule}
 use Rattle.gc_sorts.specs.declared.checked.Checked.{Checked}
 use Rattle.gc_sorts.specs.declared.refusal.SortRefusal.TheVariants.{Broken}
 use Rattle.gc_sorts.specs.Checks.{IsChecked}
-use Rattle.gcore.specs.QueryFiles.{IsFileOf, breach_place, end_place, file_over, query_file_at, sorted_at, unless_broken}
+use Rattle.gcore.specs.QueryFiles.{IsFileOf, breach_place, end_place, file_over, place_at, placed, query_file_at, sorted_at, unless_broken}
 use Rattle.gcore.specs.declared.stop.Stop.{Stop}
 use Rattle.gcore.specs.declared.stop.Stop.TheVariants.{Sorts}
 
@@ -28,8 +28,12 @@ or_end [] end (suc k) = refl
 or_end (p ∷ places) end zero = refl
 or_end (p ∷ places) end (suc k) = or_end places end k
 
+-- the place of the token of a number, by the places of the tokens and that of the end
+pub place_by : (places : List Place) (end : Place) (k : ℕ) → place_at (places ++ end ∷ []) k ≡ unwrap_or (slice_get places k) end
+place_by places end k = ap (unwrap_or (slice_get (places ++ end ∷ []) k)) (end_is places end) ∙ or_end places end k
+
 place_is : (places : List Place) (end : Place) (breach : Breach) → breach_place (places ++ end ∷ []) breach ≡ unwrap_or (slice_get places breach.token) end
-place_is places end breach = ap (unwrap_or (slice_get (places ++ end ∷ []) breach.token)) (end_is places end) ∙ or_end places end breach.token
+place_is places end breach = place_by places end breach.token
 
 -- the places of a file's tokens, and that of its end
 abbrev pub places_of : File → List Place
@@ -39,8 +43,8 @@ places_of file = file.places ++ file.end ∷ []
 abbrev pub over : List (List ℕ) → File → QueryFile
 over graphs file = file_over graphs file.names (file_trees file)
 
-pub sorted_is : (file : File) (graphs : List (List ℕ)) (found : Option Breach) (checked : Checked) → IsChecked file graphs found (Ok checked) → unless_broken (places_of file) (over graphs file) found ≡ Ok (file_of checked)
-sorted_is file graphs None checked h = λ i. Ok (over (sym h.1 i) (sym h.0 i))
+pub sorted_is : (file : File) (graphs : List (List ℕ)) (found : Option Breach) (checked : Checked) → IsChecked file graphs found (Ok checked) → unless_broken (places_of file) (over graphs file) found ≡ Ok (placed checked)
+sorted_is file graphs None checked h = λ i. Ok (record { file = over (sym h.1 i) (sym h.0 i); places = places_of (sym h.0 i) })
 sorted_is file graphs (Some breach) checked h = absurd h
 
 pub broken_is : (file : File) (graphs : List (List ℕ)) (found : Option Breach) (rule : SortRule) (at : Place) → IsChecked file graphs found (Err (Broken rule at)) → unless_broken (places_of file) (over graphs file) found ≡ Err (Sorts rule at)

@@ -1,14 +1,17 @@
 -- How a call ends, and what it did to the outside.
-use Rattle.std.specs.Prelude.{◌≡◌, ℕ, ◌≤◌, List, [], ◌∷◌, ◌++◌, length, map, Some, None, Option, Result, Ok, Err, IsOk, IsSome, IfSome, MatchOption, IsSomeAnd, Contains, ⊤, ◌⊎◌}
+use Rattle.std.specs.Prelude.{◌≡◌, ℕ, ◌≤◌, ◌<◌, ◌^◌, List, [], ◌∷◌, ◌++◌, length, map, Some, None, Option, Result, Ok, Err, IsOk, IsSome, IfSome, MatchOption, IsSomeAnd, Contains, ⊤, ◌⊎◌}
 use Rattle.std.specs.Option.{ForSome}
 use Rattle.std.specs.Io.KnownBytes.{append_known}
 use Rattle.gc_base.specs.Faults.{Rose}
 use Rattle.gc_base.specs.Files.{Files}
-use Rattle.gc_query.specs.NodeQueries.{NodeQuery}
+use Rattle.gc_base.specs.declared.place.Place.{Place}
+use Rattle.gc_query.specs.declared.fault.Fault.{Fault}
+use Rattle.gc_query.specs.declared.fault.Fault.TheVariants as fault
 use Rattle.gc_spec.specs.PropertyGraph.{PropertyGraph}
 use Rattle.gcore.specs.GraphLines.{IsHeld}
 use Rattle.gcore.specs.Lines.{line_of, status_of}
-use Rattle.gcore.specs.Outcomes.{IsTextDue, IsTextOf, outcome, graphs_due}
+use Rattle.gcore.specs.Outcomes.{IsAsked, Prints, PrintsFirst, Request, graphs_due, outcome, texts}
+use Rattle.gcore.specs.QueryFiles.{PlacedFile, place_at}
 use Rattle.gcore.specs.TextLines.{IsHeldPlace, IsHeldText}
 use Rattle.gcore.specs.declared.command.Command.{Command}
 use Rattle.gcore.specs.declared.command.Command.TheVariants.{Run, Cert, Explain, Check, Make}
@@ -16,7 +19,7 @@ use Rattle.gcore.specs.declared.pair.Pair.{Pair}
 use Rattle.gcore.specs.declared.status.Status.{Status}
 use Rattle.gcore.specs.declared.status.Status.TheVariants.{Done}
 use Rattle.gcore.specs.declared.stop.Stop.{Stop}
-use Rattle.gcore.specs.declared.stop.Stop.TheVariants.{Usage, Unread, TooLarge, Refused, Text, Sorts, NotBuilt, Unwritten, OutOfMemory}
+use Rattle.gcore.specs.declared.stop.Stop.TheVariants.{Usage, Unread, TooLarge, Refused, Text, Sorts, NotBuilt, Undefined, IdsSpent, NoGraph, Unwritten, OutOfMemory}
 
 -- a sink before and after a call: its count of faults, and what it took, where it tells that
 pub record Change : Type 0 where
@@ -60,15 +63,31 @@ WritesText out text (Err Unwritten) = Failed out × GainsPrefix out text
 WritesText out text (Err OutOfMemory) = GainsNothing out
 WritesText out text (Err stop) = ⊥
 
--- a request over these graphs was answered: a text that answers it was written, or there is no request, since the query is
--- not built
-abbrev pub WritesAnswer : List PropertyGraph → Option NodeQuery → Change → Result (Unit {0}) Stop → Type 0
-WritesAnswer graphs None out (Err NotBuilt) = GainsNothing out
-WritesAnswer graphs None out (Err OutOfMemory) = GainsNothing out
-WritesAnswer graphs None out result = ⊥
-WritesAnswer graphs (Some query) out (Err OutOfMemory) = GainsNothing out
-WritesAnswer graphs (Some query) out result =
-    (text : List ℕ) × IsTextOf (record { graphs = graphs; query = query }) text × WritesText out text result
+-- a fault at a token, as a stop
+abbrev pub stop_of_fault : List Place → Fault → Stop
+stop_of_fault places (fault.Undefined at row why) = Undefined why (place_at places at) row
+stop_of_fault places (fault.IdsSpent at needed) = IdsSpent (place_at places at) needed
+stop_of_fault places fault.NoGraph = NoGraph
+
+-- a session ends at a fault, and the texts of what it printed before were written
+abbrev pub EndsAtFault : Request → Change → Stop → Type 0
+EndsAtFault r out stop =
+    (graphs : List PropertyGraph) × (fault : Fault) × Prints r graphs (Some fault) × (stop ≡ stop_of_fault r.query.places fault) × Gains out (texts graphs)
+
+-- the beginning of the texts of what the first statements print was written
+abbrev pub WritesBeginning : Request → Change → Type 0
+WritesBeginning r out = (graphs : List PropertyGraph) × PrintsFirst r graphs × GainsPrefix out (texts graphs)
+
+-- the session of a request was run: the texts of what it prints were written; or it ended at a fault; or the output failed, or memory
+-- was wanting, behind the beginning of these texts
+abbrev pub RunsSession : Request → Change → Result (Unit {0}) Stop → Type 0
+RunsSession r out (Ok done) = (graphs : List PropertyGraph) × Prints r graphs None × Gains out (texts graphs)
+RunsSession r out (Err (Undefined why place row)) = EndsAtFault r out (Undefined why place row)
+RunsSession r out (Err (IdsSpent place needed)) = EndsAtFault r out (IdsSpent place needed)
+RunsSession r out (Err NoGraph) = EndsAtFault r out NoGraph
+RunsSession r out (Err Unwritten) = Failed out × WritesBeginning r out
+RunsSession r out (Err OutOfMemory) = WritesBeginning r out
+RunsSession r out (Err stop) = ⊥
 
 -- the folder's count of faults rose in the call
 abbrev pub ReadFault : Call → Type 0
@@ -78,9 +97,14 @@ ReadFault call = Rose call.faults_before call.faults_after
 abbrev pub IsDue : Call → Stop → Type 0
 IsDue call stop = IfSome call.files (λ files. outcome call.command files ≡ Err stop)
 
--- where the files are told, `out` gained nothing, or the beginning of a text that is due
+-- where the files are told, `out` gained nothing, or the beginning of the texts of what the first statements print
 abbrev pub GainsDuePrefix : Call → Type 0
-GainsDuePrefix call = IfSome call.files (λ files. GainsNothing call.out ⊎ ((text : List ℕ) × IsTextDue (outcome call.command files) text × GainsPrefix call.out text))
+GainsDuePrefix call =
+    IfSome call.files (λ files. GainsNothing call.out ⊎ ((r : Request) × IsAsked (outcome call.command files) r × WritesBeginning r call.out))
+
+-- where the files are told, the session that is asked for ends at the fault of this stop, and its texts before were written
+abbrev pub FaultIsDue : Call → Stop → Type 0
+FaultIsDue call stop = IfSome call.files (λ files. (r : Request) × IsAsked (outcome call.command files) r × EndsAtFault r call.out stop)
 
 -- a graph file's turn comes once those before it are accepted
 abbrev pub IsTurnOfGraph : Option Files → List Pair → List ℕ → Type 0
@@ -139,12 +163,17 @@ StopsFor call (Refused refusal file) = IsReachedGraph call file × IsDue call (R
 StopsFor call (Text refusal) = IsReachedQuery call × IsDue call (Text refusal) × GainsNothing call.out
 StopsFor call (Sorts rule place) = IsReachedQuery call × IsDue call (Sorts rule place) × GainsNothing call.out
 StopsFor call NotBuilt = IsSome call.command × IsDue call NotBuilt × GainsNothing call.out
+StopsFor call (Undefined why place row) = IsReachedQuery call × FaultIsDue call (Undefined why place row)
+StopsFor call (IdsSpent place needed) = IsReachedQuery call × FaultIsDue call (IdsSpent place needed)
+StopsFor call NoGraph = IsReachedQuery call × FaultIsDue call NoGraph
 StopsFor call Unwritten = IsSome call.command × Failed call.out × GainsDuePrefix call
 StopsFor call OutOfMemory = GainsDuePrefix call
 
--- the call did what is due: where the files are told, `out` gained exactly a text that answers what is asked
+-- the call did what is due: where the files are told, `out` gained exactly the texts of the graphs that the session prints
 abbrev pub Finishes : Call → Type 0
-Finishes call = IsSome call.command × IfSome call.files (λ files. (text : List ℕ) × IsTextDue (outcome call.command files) text × Gains call.out text)
+Finishes call =
+    IsSome call.command
+    × IfSome call.files (λ files. (r : Request) × (graphs : List PropertyGraph) × IsAsked (outcome call.command files) r × Prints r graphs None × Gains call.out (texts graphs))
 
 -- a call finishes, or stops for a cause
 abbrev pub Answers : Call → Result (Unit {0}) Stop → Type 0
@@ -186,17 +215,31 @@ MayStop command (TooLarge file) = Contains (named_files command) file
 MayStop command (Refused refusal file) = Contains (graph_files command) file × IsHeld refusal
 MayStop command (Text refusal) = IsSomeAnd command HasQuery × IsHeldText refusal
 MayStop command (Sorts rule place) = IsSomeAnd command HasQuery × IsHeldPlace place
+MayStop command (Undefined why place row) = IsSomeAnd command HasQuery × IsHeldPlace place × (row < 2 ^ 64)
+MayStop command (IdsSpent place needed) = IsSomeAnd command HasQuery × IsHeldPlace place × (needed < 2 ^ 64)
 MayStop command stop = ⊤
 
--- a told room of `out` holds each text that is due, for which the files have to be told
+-- a told room holds the texts of whatever first statements print
+abbrev pub HoldsTexts : Option ℕ → Request → Type 0
+HoldsTexts room r = ForSome room (λ most. (graphs : List PropertyGraph) → PrintsFirst r graphs → length (texts graphs) ≤ most)
+
+-- the same of the session that is asked for, for which the files have to be told
 abbrev pub HoldsText : Option ℕ → Option Files → Option Command → Type 0
-HoldsText room told command = ForSome room (λ r. IsSomeAnd told (λ files. (text : List ℕ) → IsTextDue (outcome command files) text → length text ≤ r))
+HoldsText room told command =
+    ForSome room (λ most. IsSomeAnd told (λ files. (r : Request) (graphs : List PropertyGraph)
+    → IsAsked (outcome command files) r → PrintsFirst r graphs → length (texts graphs) ≤ most))
 
 -- a told room of `err` holds each line that may be due
 abbrev pub HoldsLines : Option ℕ → Option Command → Type 0
 HoldsLines room command = ForSome room (λ r. (stop : Stop) → MayStop command stop → length (line_of stop) ≤ r)
 
--- a told room of `out` holds each text that answers a request over these graphs
-abbrev pub HoldsAnswer : Option ℕ → List PropertyGraph → Option NodeQuery → Type 0
-HoldsAnswer room graphs None = ⊤
-HoldsAnswer room graphs (Some query) = ForSome room (λ r. (text : List ℕ) → IsTextOf (record { graphs = graphs; query = query }) text → length text ≤ r)
+-- what is asked for over loaded graphs was done: its session was run, or it is not built
+abbrev pub WritesAsked : List PropertyGraph → Result PlacedFile Stop → Change → Result (Unit {0}) Stop → Type 0
+WritesAsked graphs (Ok query) out result = RunsSession (record { graphs = graphs; query = query }) out result
+WritesAsked graphs (Err stop) out (Err OutOfMemory) = GainsNothing out
+WritesAsked graphs (Err stop) out result = (result ≡ Err stop) × GainsNothing out
+
+-- a told room holds the texts of what is asked for
+abbrev pub HoldsAsked : Option ℕ → List PropertyGraph → Result PlacedFile Stop → Type 0
+HoldsAsked room graphs (Ok query) = HoldsTexts room (record { graphs = graphs; query = query })
+HoldsAsked room graphs (Err stop) = ⊤

@@ -1,15 +1,15 @@
 -- What reading the graph files answers.
-use Rattle.std.specs.Prelude.{◌≡◌, List, [], length, map, Result, Ok, Err, IfSome, MatchOption, ⊤, ◌⊎◌}
+use Rattle.std.specs.Prelude.{◌≡◌, ◌<◌, ◌^◌, List, [], length, map, Result, Ok, Err, IfSome, MatchOption, ⊤, ◌⊎◌}
 use Rattle.gc_base.specs.Faults.{Rose}
 use Rattle.gc_catalog.specs.NamedGraphs.{NamedGraphs}
 use Rattle.gcore.specs.Endings.{IsTurnOfGraph}
 use Rattle.gcore.specs.GraphLines.{IsHeld}
-use Rattle.gcore.specs.Outcomes.{graphs_due}
+use Rattle.gcore.specs.Outcomes.{free_above, graphs_due}
 use Rattle.gcore.specs.TextLines.{IsHeldPlace, IsHeldText}
 use Rattle.gcore.specs.Steps.{Reading}
 use Rattle.gcore.specs.declared.pair.Pair.{Pair}
 use Rattle.gcore.specs.declared.stop.Stop.{Stop}
-use Rattle.gcore.specs.declared.stop.Stop.TheVariants.{Usage, Unread, TooLarge, Refused, Text, Sorts, NotBuilt, Unwritten, OutOfMemory}
+use Rattle.gcore.specs.declared.stop.Stop.TheVariants.{Usage, Unread, TooLarge, Refused, Text, Sorts, NotBuilt, Undefined, IdsSpent, NoGraph, Unwritten, OutOfMemory}
 
 -- where the files are told, this stop is due
 abbrev pub IsDueFor : Reading → List Pair → Stop → Type 0
@@ -26,12 +26,17 @@ StopsReadingGraphs reading pairs (Refused refusal file) = IsTurnOfGraph reading.
 StopsReadingGraphs reading pairs (Text refusal) = ⊥
 StopsReadingGraphs reading pairs (Sorts rule place) = ⊥
 StopsReadingGraphs reading pairs NotBuilt = IsDueFor reading pairs NotBuilt
+StopsReadingGraphs reading pairs (Undefined why place row) = ⊥
+StopsReadingGraphs reading pairs (IdsSpent place needed) = ⊥
+StopsReadingGraphs reading pairs NoGraph = ⊥
 StopsReadingGraphs reading pairs Unwritten = ⊥
 StopsReadingGraphs reading pairs OutOfMemory = ⊤
 
--- a catalog of the graphs that are due, one for each file under its name, or a stop
+-- a catalog of the graphs that are due, one for each file under its name, with the identities above all of theirs free, or a stop
 abbrev pub ReadsGraphs : Reading → List Pair → Result NamedGraphs Stop → Type 0
-ReadsGraphs reading pairs (Ok c) = (c.names ≡ map (λ (p : Pair). p.name) pairs) × (length c.graphs ≡ length pairs) × IfSome reading.files (λ files. graphs_due files [] pairs ≡ Ok c.graphs)
+ReadsGraphs reading pairs (Ok c) =
+    (c.names ≡ map (λ (p : Pair). p.name) pairs) × (length c.graphs ≡ length pairs) × IfSome reading.files (λ files. graphs_due files [] pairs ≡ Ok c.graphs)
+    × (c.next ≡ free_above c.graphs)
 ReadsGraphs reading pairs (Err stop) = StopsReadingGraphs reading pairs stop
 
 -- a stop as the machine holds it
@@ -39,4 +44,6 @@ abbrev pub IsHeldStop : Stop → Type 0
 IsHeldStop (Refused refusal file) = IsHeld refusal
 IsHeldStop (Text refusal) = IsHeldText refusal
 IsHeldStop (Sorts rule place) = IsHeldPlace place
+IsHeldStop (Undefined why place row) = IsHeldPlace place × (row < 2 ^ 64)
+IsHeldStop (IdsSpent place needed) = IsHeldPlace place × (needed < 2 ^ 64)
 IsHeldStop stop = ⊤

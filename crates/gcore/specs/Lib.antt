@@ -7,6 +7,7 @@ pub mod MakeLines
 pub mod Outcomes
 pub mod Pairs
 pub mod QueryFiles
+pub mod SessionSteps
 pub mod SortLines
 pub mod Steps
 pub mod TextLines

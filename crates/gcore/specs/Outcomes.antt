@@ -1,5 +1,6 @@
 -- The outcome of a call: what it is asked and the texts that answer it, or the stop that is due.
-use Rattle.std.specs.Prelude.{◌≡◌, ℕ, List, [], ◌∷◌, ◌++◌, length, map, nat_lt, if◌then◌else◌, Some, None, Option, Result, Ok, Err}
+use Rattle.std.specs.Prelude.{◌≡◌, ℕ, List, [], ◌∷◌, ◌++◌, fold, length, map, max, nat_lt, if◌then◌else◌, Some, None, Option, Result, Ok, Err}
+use Rattle.std.specs.List.{flat_map}
 use Rattle.gc_base.specs.Files.{Files, file_of}
 use Rattle.gc_spec.specs.Coherence.{shapes_of}
 use Rattle.gc_spec.specs.PropertyGraph.{PropertyGraph}
@@ -7,10 +8,13 @@ use Rattle.gc_json.specs.CanonicalText.{canonical_text}
 use Rattle.gc_json.specs.FileElements.{Seen}
 use Rattle.gc_json.specs.GraphFiles.{file_graph}
 use Rattle.gc_json.specs.declared.refusal.GraphRefusal.{GraphRefusal}
-use Rattle.gc_lower.specs.Namings.{QueryFile}
-use Rattle.gc_query.specs.NodeAnswers.{IsTheAnswer}
-use Rattle.gc_query.specs.NodeQueries.{NodeQuery, node_query}
-use Rattle.gcore.specs.QueryFiles.{query_file_of}
+use Rattle.gc_lower.specs.Namings.{scope_in}
+use Rattle.gc_ppg.specs.FreeIds.{first_free}
+use Rattle.gc_query.specs.Built.{is_built}
+use Rattle.gc_query.specs.Sessions.{Session, Begins}
+use Rattle.gc_query.specs.Standings.{Standing}
+use Rattle.gc_query.specs.declared.fault.Fault.{Fault}
+use Rattle.gcore.specs.QueryFiles.{PlacedFile, query_file_of}
 use Rattle.gcore.specs.declared.command.Command.{Command}
 use Rattle.gcore.specs.declared.command.Command.TheVariants.{Run, Cert, Explain, Check, Make}
 use Rattle.gcore.specs.declared.command.CommandRefusal.{CommandRefusal}
@@ -54,48 +58,57 @@ graphs_due files seen [] = Ok []
 graphs_due files seen (pair ∷ pairs) =
     then_due (graph_due files seen pair.file) (λ g. then_due (graphs_due files (seen ++ shapes_of g ∷ []) pairs) (λ gs. Ok (g ∷ gs)))
 
--- what is built: whatever is no query of nodes is not
-abbrev pub built : {A : Type 0} → Option A → Result A Stop
-built None = Err NotBuilt
-built (Some x) = Ok x
-
--- what a query file asks for
-abbrev pub asked_of : QueryFile → Result NodeQuery Stop
-asked_of file = built (node_query file)
+-- what a query file asks for, where all of it is built
+abbrev pub asked_of : PlacedFile → Result PlacedFile Stop
+asked_of placed = if is_built placed.file then Ok placed else Err NotBuilt
 
 -- what the bytes of a query file ask for, over graphs of these names
-abbrev pub query_of : List (List ℕ) → List ℕ → Result NodeQuery Stop
+abbrev pub query_of : List (List ℕ) → List ℕ → Result PlacedFile Stop
 query_of graphs bytes = then_due (query_file_of graphs bytes) asked_of
 
 -- a query file that is read
-abbrev pub query_file_due : List (List ℕ) → Files → List ℕ → Result QueryFile Stop
+abbrev pub query_file_due : List (List ℕ) → Files → List ℕ → Result PlacedFile Stop
 query_file_due graphs files name = then_due (file_due files name query_limit) (query_file_of graphs)
 
 -- what a query file asks for
-abbrev pub query_due : List (List ℕ) → Files → List ℕ → Result NodeQuery Stop
+abbrev pub query_due : List (List ℕ) → Files → List ℕ → Result PlacedFile Stop
 query_due graphs files name = then_due (file_due files name query_limit) (query_of graphs)
 
 -- the names of graph files, in the order of the words
 abbrev pub graph_names : List Pair → List (List ℕ)
 graph_names pairs = map (λ (p : Pair). p.name) pairs
 
--- what a run is asked: the graphs, and the query
+-- what a run is asked: the graphs, and the query file
 pub record Request : Type 0 where
   pub graphs : List PropertyGraph
-  pub query : NodeQuery
+  pub query : PlacedFile
 
-abbrev pub request : List PropertyGraph → NodeQuery → Result Request Stop
+abbrev pub request : List PropertyGraph → PlacedFile → Result Request Stop
 request graphs query = Ok (record { graphs = graphs; query = query })
+
+-- the first identity above all of some graphs, or 0 where they have no element
+abbrev pub free_above : List PropertyGraph → ℕ
+free_above graphs = fold (λ n g. max n (first_free g)) 0 graphs
+
+-- a session begins over the loaded graphs, and identities are free above all of theirs
+abbrev pub beginning : List PropertyGraph → Standing
+beginning graphs = record { graphs = graphs; next = free_above graphs }
+
+-- the session that is asked for prints these graphs, in turn, and ends with a fault or without one
+abbrev pub Prints : Request → List PropertyGraph → Option Fault → Type 0
+Prints r graphs end = Session (scope_in r.query.file 0) (beginning r.graphs) r.query.file.statements graphs end
+
+-- its first statements print these graphs
+abbrev pub PrintsFirst : Request → List PropertyGraph → Type 0
+PrintsFirst r graphs = Begins (scope_in r.query.file 0) (beginning r.graphs) r.query.file.statements graphs
 
 -- the text of a graph, and a line feed
 unfoldable pub printed : PropertyGraph → List ℕ
 printed g = canonical_text g ++ 10 ∷ []
 
--- the text that answers a request is that of the graph that does, which is the only one
-pub record IsTextOf (r : Request) (text : List ℕ) : Type 0 where
-  pub graph : PropertyGraph
-  pub answer : IsTheAnswer r.graphs r.query graph
-  pub written : text ≡ printed graph
+-- the texts of graphs, one after another
+abbrev pub texts : List PropertyGraph → List ℕ
+texts graphs = flat_map printed graphs
 
 -- first the graph files, then the query file
 abbrev pub run_due : Files → List ℕ → List Pair → Result Request Stop
@@ -119,10 +132,9 @@ form_due (Some command) = Ok command
 abbrev pub outcome : Option Command → Files → Result Request Stop
 outcome command files = then_due (form_due command) (command_due files)
 
--- a text is due where it answers what is asked; a stop has none
-abbrev pub IsTextDue : Result Request Stop → List ℕ → Type 0
-IsTextDue (Ok r) text = IsTextOf r text
-IsTextDue (Err stop) text = ⊥
+-- a call is asked for the session of a request
+abbrev pub IsAsked : Result Request Stop → Request → Type 0
+IsAsked due r = due ≡ Ok r
 
 -- why there is no command, as a stop
 abbrev pub stop_of_command : CommandRefusal → Stop

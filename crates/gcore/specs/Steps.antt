@@ -2,10 +2,10 @@
 use Rattle.std.specs.Prelude.{◌≡◌, ℕ, List, Option, Result, Ok, Err, IfSome, MatchOption, ⊤, ◌⊎◌}
 use Rattle.gc_base.specs.Faults.{Rose}
 use Rattle.gc_base.specs.Files.{Files}
-use Rattle.gc_lower.specs.Namings.{QueryFile, file_of}
 use Rattle.gc_sorts.specs.declared.checked.Checked.{Checked}
+use Rattle.gcore.specs.QueryFiles.{PlacedFile, placed}
 use Rattle.gcore.specs.declared.stop.Stop.{Stop}
-use Rattle.gcore.specs.declared.stop.Stop.TheVariants.{Usage, Unread, TooLarge, Refused, Text, Sorts, NotBuilt, Unwritten, OutOfMemory}
+use Rattle.gcore.specs.declared.stop.Stop.TheVariants.{Usage, Unread, TooLarge, Refused, Text, Sorts, NotBuilt, Undefined, IdsSpent, NoGraph, Unwritten, OutOfMemory}
 
 -- a folder in a step: its files, where it tells them, and its count of faults before and after
 pub record Reading : Type 0 where
@@ -23,6 +23,9 @@ StopsReading reading name due (Refused refusal file) = ⊥
 StopsReading reading name due (Text refusal) = ⊥
 StopsReading reading name due (Sorts rule place) = ⊥
 StopsReading reading name due NotBuilt = IfSome reading.files (λ files. due files ≡ Err NotBuilt)
+StopsReading reading name due (Undefined why place row) = ⊥
+StopsReading reading name due (IdsSpent place needed) = ⊥
+StopsReading reading name due NoGraph = ⊥
 StopsReading reading name due Unwritten = ⊥
 StopsReading reading name due OutOfMemory = ⊤
 
@@ -52,6 +55,6 @@ StopsReadingQuery reading name due (Sorts rule place) = IfSome reading.files (λ
 StopsReadingQuery reading name due stop = StopsReading reading name due stop
 
 -- the query file that is due is given, or a stop
-abbrev pub ReadsQuery : Reading → List ℕ → (Files → Result QueryFile Stop) → Result Checked Stop → Type 0
-ReadsQuery reading name due (Ok checked) = IfSome reading.files (λ files. due files ≡ Ok (file_of checked))
+abbrev pub ReadsQuery : Reading → List ℕ → (Files → Result PlacedFile Stop) → Result Checked Stop → Type 0
+ReadsQuery reading name due (Ok checked) = IfSome reading.files (λ files. due files ≡ Ok (placed checked))
 ReadsQuery reading name due (Err stop) = StopsReadingQuery reading name due stop

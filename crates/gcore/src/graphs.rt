@@ -1,7 +1,8 @@
-ghost use Rattle.std.specs.Prelude.{◌≡◌, ◌≤◌, ◌++◌, ◌∷◌, [], None, true, OnOk};
+ghost use Rattle.std.specs.Prelude.{◌≡◌, ◌≤◌, ◌++◌, ◌∷◌, [], None, max, true, OnOk};
 ghost use Rattle.std.specs.List.{AllByRecursion};
 ghost use Rattle.gc_spec.specs.Coherence.{AreCoherent};
 ghost use Rattle.gc_catalog.specs.NamedGraphs.{number_of};
+ghost use Rattle.gc_ppg.specs.FreeIds.{first_free};
 ghost use Rattle.gcore.specs.GraphSteps.{ReadsGraphs};
 ghost use Rattle.gcore.specs.Pairs.{names_differ};
 ghost use Rattle.gcore.specs.Steps.{Reading};
@@ -44,6 +45,7 @@ fn add_loaded(catalog: &mut Catalog, name: &Name, graph: Graph) -> Result<(), Me
     requires fresh { number_of catalog.old.names name.now ≡ None }
     ensures graphs { OnOk result (catalog.new.graphs ≡ catalog.old.graphs ++ graph ∷ []) }
     ensures names { OnOk result (catalog.new.names ≡ catalog.old.names ++ name.now ∷ []) }
+    ensures next { OnOk result (catalog.new.next ≡ max catalog.old.next (first_free graph)) }
 {
     let free = catalog.next().max(graph.first_free());
     catalog.set_next(free);

@@ -21,7 +21,7 @@ ghost use Rattle.gcore.specs.declared.text_refusal.TextRefusal.TheVariants.{TooD
 pub fn a_query_file_asks_what_its_tokens_spell()
     ensures spelled { (graphs : List (List ℕ)) (text : List ℕ) (list : TokenList) (statements : List (Tree AStatement)) → lexed text ≡ Ok list
         → IsDepthFault list.tokens None → SpellsFile list.tokens statements → first_breach graphs (row statements) ≡ None → query_of graphs text
-        ≡ asked_of (file_over graphs (names_among list.tokens) statements) }
+        ≡ asked_of (record { file = file_over graphs (names_among list.tokens) statements; places = list.places }) }
     ensures broken { (graphs : List (List ℕ)) (text : List ℕ) (list : TokenList) (statements : List (Tree AStatement)) (breach : Breach) → lexed text
         ≡ Ok list → IsDepthFault list.tokens None → SpellsFile list.tokens statements → first_breach graphs (row statements) ≡ Some breach
         → query_of graphs text ≡ Err (Sorts breach.rule (breach_place list.places breach)) }

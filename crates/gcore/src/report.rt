@@ -1,7 +1,7 @@
 ghost use Rattle.std.specs.Prelude.{◌≡◌, ◌++◌, codes, length};
 ghost use Rattle.gc_base.specs.Sinks.{HasRoom};
 ghost use Rattle.gc_io.specs.Pieces.{joined};
-ghost use Rattle.gcore.specs.Lines.{line, line_of, refusal_line, spot_line, item_line, digits_line, text_line, sort_line, place_line, numbers_line};
+ghost use Rattle.gcore.specs.Lines.{line, line_of, refusal_line, spot_line, item_line, digits_line, text_line, sort_line, place_line, numbers_line, counted_line, fault_line, why_text};
 ghost use Rattle.gcore.specs.SortLines.{rule_text};
 ghost use Rattle.gcore.specs.Endings.{Change, Tells};
 
@@ -11,6 +11,7 @@ use gc_base::Place;
 use gc_io::{Sink, write_pieces};
 use gc_json::{GraphRefusal, Part, Spot};
 use gc_sorts::SortRule;
+use gc_values::Why;
 use itoa::Buffer;
 
 /// Tells a sink the line of a stop. It takes no memory, and a failure of the sink changes nothing else.
@@ -31,6 +32,13 @@ pub fn tell<T: Sink>(stop: &Stop, err: &mut T)
         Stop::Text(refusal) => tell_text(err, *refusal),
         Stop::Sorts(rule, place) => tell_sorts(err, *rule, *place),
         Stop::NotBuilt => tell_line(err, b"not built", b""),
+        Stop::NoGraph => tell_line(err, b"not built", b""),
+        Stop::Undefined(why, place, row) => {
+            tell_fault(err, why_text(*why), *place, b" row ", *row);
+        }
+        Stop::IdsSpent(place, needed) => {
+            tell_fault(err, b"F6 IdsSpent", *place, b" needed ", *needed);
+        }
         Stop::Unwritten => tell_line(err, b"cannot write", b""),
         Stop::OutOfMemory => tell_line(err, b"out of memory", b""),
     }
@@ -256,6 +264,64 @@ fn tell_numbers<T: Sink>(err: &mut T, rule: &[u8], line: &[u8], column: &[u8])
     }) (numbers_line rule.now line.now column.now) }
 {
     tell_pieces(err, &[b"gcore: ", rule, b" ", line, b":", column, b"\n"]);
+}
+
+// Why a value is undefined, with its code.
+fn why_text(why: Why) -> &'static [u8]
+    ensures { result.now ≡ why_text why }
+{
+    match why {
+        Why::Overflow => b"F1 Overflow",
+        Why::ZeroDivisor => b"F2 ZeroDivisor",
+        Why::WrongKind => b"F3 WrongKind",
+    }
+}
+
+// The line of a fault of evaluation at a place, with a number.
+fn tell_fault<T: Sink>(err: &mut T, rule: &[u8], place: Place, word: &[u8], number: u64)
+    requires { HasRoom (T.room err.old) (length (fault_line rule.now place word.now number)) }
+    ensures { Tells (record {
+      faults_before = T.faults err.old;
+      faults_after = T.faults err.new;
+      taken_before = T.taken err.old;
+      taken_after = T.taken err.new;
+    }) (fault_line rule.now place word.now number) }
+{
+    let mut line = Buffer::new();
+    let mut column = Buffer::new();
+    let mut count = Buffer::new();
+    tell_counted(
+        err,
+        rule,
+        line.format(place.line).as_bytes(),
+        column.format(place.column).as_bytes(),
+        word,
+        count.format(number).as_bytes(),
+    );
+}
+
+fn tell_counted<T: Sink>(
+    err: &mut T,
+    rule: &[u8],
+    line: &[u8],
+    column: &[u8],
+    word: &[u8],
+    number: &[u8],
+)
+    requires { HasRoom (T.room err.old) (length (counted_line rule.now line.now column.now word.now number.now)) }
+    ensures { Tells (record {
+      faults_before = T.faults err.old;
+      faults_after = T.faults err.new;
+      taken_before = T.taken err.old;
+      taken_after = T.taken err.new;
+    }) (counted_line rule.now line.now column.now word.now number.now) }
+{
+    tell_pieces(
+        err,
+        &[
+            b"gcore: ", rule, b" ", line, b":", column, word, number, b"\n",
+        ],
+    );
 }
 
 fn tell_pieces<T: Sink>(err: &mut T, pieces: &[&[u8]])

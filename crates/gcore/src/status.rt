@@ -6,6 +6,8 @@ ghost use Rattle.gcore.specs.Lines.{code_of};
 pub enum Status {
     /// The input was read to its end, and the whole output was taken.
     Done = 0,
+    /// A statement ended in a fault of evaluation.
+    Fault = 1,
     /// The words have none of the forms.
     Usage = 2,
     /// The query file is refused.

@@ -1,4 +1,4 @@
-ghost use Rattle.std.specs.Prelude.{◌≡◌};
+ghost use Rattle.std.specs.Prelude.{◌≡◌, ◌<◌, ◌^◌};
 ghost use Rattle.gcore.specs.GraphLines.{IsHeld, IsHeldSpot};
 ghost use Rattle.gcore.specs.Lines.{line_of, status_of};
 ghost use Rattle.gcore.specs.TextLines.{IsHeldText, IsHeldPlace};
@@ -11,6 +11,7 @@ use gc_io::SinkFault;
 use gc_json::{GraphRefusal, Spot};
 use gc_lex::LexRefusal;
 use gc_sorts::SortRule;
+use gc_values::Why;
 
 /// Why a call ends without being done, with the word of the file that it is about.
 #[derive(Debug, Drop)]
@@ -29,6 +30,12 @@ pub enum Stop {
     Sorts(SortRule, Place),
     /// What is asked for is not built yet.
     NotBuilt,
+    /// A statement's assignment is undefined on a row of this number, at a place.
+    Undefined(Why, Place, u64),
+    /// A statement needs so many new identities that they would pass the largest, at a place.
+    IdsSpent(Place, u64),
+    /// What a statement claims is no graph.
+    NoGraph,
     /// The output failed.
     Unwritten,
     /// Want of memory.
@@ -48,6 +55,9 @@ impl Stop {
             Stop::Text(_) => Status::Text,
             Stop::Sorts(_, _) => Status::Sorts,
             Stop::NotBuilt => Status::NotBuilt,
+            Stop::Undefined(_, _, _) => Status::Fault,
+            Stop::IdsSpent(_, _) => Status::Fault,
+            Stop::NoGraph => Status::NotBuilt,
             Stop::Unwritten => Status::Write,
             Stop::OutOfMemory => Status::Memory,
         }
@@ -65,6 +75,8 @@ impl Stop {
             Stop::Refused(refusal, _) => known_refusal(refusal),
             Stop::Text(refusal) => known_text(*refusal),
             Stop::Sorts(_, place) => known_place(*place),
+            Stop::Undefined(_, place, row) => known_fault(*place, *row),
+            Stop::IdsSpent(place, needed) => known_fault(*place, *needed),
             _ => {}
         }
     }
@@ -112,6 +124,14 @@ fn known_text(refusal: TextRefusal)
         TextRefusal::TooDeep(place) => known_place(place),
         TextRefusal::Syntax(place) => known_place(place),
     }
+}
+
+// That a place and a number are as the machine holds them, for a proof.
+fn known_fault(place: Place, number: u64)
+    ensures place { IsHeldPlace place }
+    ensures number { number < 2 ^ 64 }
+{
+    known_place(place);
 }
 
 // That a place is as the machine holds it, for a proof.

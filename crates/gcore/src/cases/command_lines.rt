@@ -74,45 +74,9 @@ why-is-no-form-yet
 $ why 1 q g=a
 = 2 gcore: usage
 
-stored-path-construction-not-built
-$ run q g=a
-a: {"gcore":1,"nodes":[{"id":2},{"id":3}],"edges":[{"id":12,"from":2,"to":3}],"paths":[{"id":50,"walk":[3,12,2]}]}
-q: CONSTRUCT (n)-/@p/->(m) MATCH (n)-/@p/->(m)
-= 11 gcore: not built
-
 expression-of-most-states-not-built
 $ run q g=s
 q: CONSTRUCT (n) MATCH (n)-/<«511×_ »_>/->(m)
-s: «S»
-= 11 gcore: not built
-
-new-node-not-built
-$ run q S=s
-q: CONSTRUCT (x) MATCH (n)-[e]-(m) WHERE n.name = "Eva"
-s: «S»
-= 11 gcore: not built
-
-optional-not-built
-$ run q S=s
-q: CONSTRUCT (n {k := COUNT(m)}), (m) MATCH (n) WHERE n.name = "Eva" OPTIONAL (n)-[e:likes]->(m)
-s: «S»
-= 11 gcore: not built
-
-set-operation-not-built
-$ run q S=s
-q: S MINUS (CONSTRUCT (n) MATCH (n) WHERE n.name = "Bob")
-s: «S»
-= 11 gcore: not built
-
-exists-not-built
-$ run q S=s
-q: CONSTRUCT (n) MATCH (n) WHERE EXISTS (CONSTRUCT () MATCH (n)-[:knows]->(n))
-s: «S»
-= 11 gcore: not built
-
-two-statements-not-built
-$ run q S=s
-q: S; CONSTRUCT (n {x := 1/0}) MATCH (n)
 s: «S»
 = 11 gcore: not built
 
@@ -236,12 +200,6 @@ $ make ring 2000 0
 
 make-of-the-greatest-random-graph-not-built
 $ make random 0000032768 2147483647
-= 11 gcore: not built
-
-item-that-is-no-variable-not-built
-$ run q g=a
-a: «labels»
-q: CONSTRUCT (v) MATCH (w:Person)
 = 11 gcore: not built
 "##;
 

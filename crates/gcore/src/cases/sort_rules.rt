@@ -164,7 +164,7 @@ fn holds(alloc: Global, query: &str) -> Result<bool, Fail> {
     }
     let mut due = String::from_str(alloc, "4 gcore: ")?;
     due.push_str(told)?;
-    is_due(alloc, &seen, &due)
+    is_due(alloc, &seen, &due, &[])
 }
 
 #[test]

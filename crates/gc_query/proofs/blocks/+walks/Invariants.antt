@@ -1,7 +1,7 @@
 use Rattle.std.proofs.Common.{◌≡◌, map, drop}
 use Rattle.gc_alg.specs.Trees.{row}
 use Rattle.gc_alg.specs.Views.{conjunct_tree, exists_tree, part_tree}
-use Rattle.gc_query.specs.NodeQueries.{no_walks}
+use Rattle.gc_query.specs.Built.{no_walks}
 use Rattle.gc_query.proofs.blocks.+walks.Given as goal
 
 -- what is left decides

@@ -1,10 +1,9 @@
 use Rattle.std.proofs.Common.{◌≡◌, ℕ, List, Option, Ok, sym, subst}
 use Rattle.std.specs.Prelude.{IfSome}
 use Rattle.gc_base.specs.Files.{Files}
-use Rattle.gc_lower.specs.Namings.{QueryFile, file_of}
-use Rattle.gc_query.specs.NodeQueries.{node_query}
-use Rattle.gcore.specs.Endings.{Change, HoldsAnswer, WritesAnswer}
-use Rattle.gcore.specs.Outcomes.{graph_names, query_file_due}
+use Rattle.gcore.specs.Endings.{Change, HoldsAsked, WritesAsked}
+use Rattle.gcore.specs.Outcomes.{asked_of, free_above, graph_names, query_file_due}
+use Rattle.gcore.specs.QueryFiles.{PlacedFile, placed}
 use Rattle.gcore.proofs.GraphsRead.{graphs_differ}
 use Rattle.gcore.proofs.RunLaws.{room_holds, written}
 use Rattle.gcore.proofs.answer.run_query.Goals as goal
@@ -13,23 +12,25 @@ pub read_graphs-requires : goal.read_graphs-requires
 read_graphs-requires g c = graphs_differ c.args.pairs.now c.requires.graphs
 
 -- the query file that was read over these names, with what the folder told before
-file_read : (told before : Option Files) (names graphs : List (List ℕ)) (query : List ℕ) (file : QueryFile) → told ≡ before → names ≡ graphs → IfSome told (λ files. query_file_due names files query ≡ Ok file)
+file_read : (told before : Option Files) (names graphs : List (List ℕ)) (query : List ℕ) (file : PlacedFile) → told ≡ before → names ≡ graphs → IfSome told (λ files. query_file_due names files query ≡ Ok file)
     → IfSome before (λ files. query_file_due graphs files query ≡ Ok file)
 file_read told before names graphs query file kept same read =
     subst (λ ns. IfSome before (λ files. query_file_due ns files query ≡ Ok file)) same (subst (λ (t : Option Files). IfSome t (λ files. query_file_due names files query ≡ Ok file)) kept read)
 
-pub write_answer-written-requires : goal.write_answer-written-requires
-write_answer-written-requires g c =
+pub write_answer-written-requires-clause-begins : goal.write_answer-written-requires-clause-begins
+write_answer-written-requires-clause-begins g c = c.in_ok-catalog.ensures.outcome.3
+
+pub write_answer-written-requires-clause-room : goal.write_answer-written-requires-clause-room
+write_answer-written-requires-clause-room g c =
     let told = g.F.Folder.files c.args.folder.now in
-    let file = file_of c.in_ok-checked.checked in
+    let file = placed c.in_ok-checked.checked in
     let read = file_read (g.F.Folder.files c.read_graphs.new.folder) told c.in_ok-names.names (graph_names c.args.pairs.now) c.args.query.now file c.in_ok-catalog.ensures.kept c.in_ok-names.ensures c.in_ok-checked.ensures.outcome in
-    subst (λ gs. HoldsAnswer (g.S.Sink.room c.args.out.now) gs (node_query file)) (sym c.graphs.ensures.graphs)
-    (room_holds c.args.query.now c.args.pairs.now told c.in_ok-catalog.catalog.graphs file (g.S.Sink.room c.args.out.now) c.requires.room c.in_ok-catalog.ensures.outcome.2 read)
+    room_holds c.args.query.now c.args.pairs.now told c.in_ok-catalog.catalog.graphs file (g.S.Sink.room c.args.out.now) c.requires.room c.in_ok-catalog.ensures.outcome.2 read
 
 pub returns-clause-outcome : goal.returns-clause-outcome
 returns-clause-outcome g c =
     let told = g.F.Folder.files c.args.folder.now in
-    let file = file_of c.in_ok-checked.checked in
+    let file = placed c.in_ok-checked.checked in
     let read = file_read (g.F.Folder.files c.read_graphs.new.folder) told c.in_ok-names.names (graph_names c.args.pairs.now) c.args.query.now file c.in_ok-catalog.ensures.kept c.in_ok-names.ensures c.in_ok-checked.ensures.outcome in
     let out : Change = record {
       faults_before = g.S.Sink.faults c.args.out.now;
@@ -37,6 +38,5 @@ returns-clause-outcome g c =
       taken_before = g.S.Sink.taken c.args.out.now;
       taken_after = g.S.Sink.taken c.write_answer-written.new.out;
     } in
-    written c.args.query.now c.args.pairs.now told c.in_ok-catalog.catalog.graphs file (g.F.Folder.faults c.args.folder.now) (g.F.Folder.faults c.read_query.new.folder) out c.write_answer-written.result
-    c.in_ok-catalog.ensures.outcome.2 read
-    (subst (λ gs. WritesAnswer gs (node_query file) out c.write_answer-written.result) c.graphs.ensures.graphs c.write_answer-written.ensures)
+    written c.args.query.now c.args.pairs.now told c.in_ok-catalog.catalog.graphs file (g.F.Folder.faults c.args.folder.now) (g.F.Folder.faults c.read_query.new.folder) out
+    c.in_ok-catalog.ensures.outcome.2 read c.write_answer-written.result c.write_answer-written.ensures

@@ -1,22 +1,21 @@
 use Rattle.std.proofs.Common.{◌≡◌, ℕ, List, Option, None, Some, Result, Ok, Err, ap, ◌∙◌, subst, IfSome}
 use Rattle.gc_base.specs.Files.{Files}
-use Rattle.gc_lower.specs.Namings.{QueryFile, file_of}
 use Rattle.gc_sorts.specs.declared.checked.Checked.{Checked}
 use Rattle.gcore.specs.Outcomes.{then_due, file_due, query_file_due, query_limit}
-use Rattle.gcore.specs.QueryFiles.{IsFileOf, query_file_of}
+use Rattle.gcore.specs.QueryFiles.{IsFileOf, PlacedFile, placed, query_file_of}
 use Rattle.gcore.specs.Steps.{ReadsQuery}
 use Rattle.gcore.specs.declared.stop.Stop.{Stop}
-use Rattle.gcore.specs.declared.stop.Stop.TheVariants.{Usage, Unread, TooLarge, Refused, Text, Sorts, NotBuilt, Unwritten, OutOfMemory}
+use Rattle.gcore.specs.declared.stop.Stop.TheVariants.{Usage, Unread, TooLarge, Refused, Text, Sorts, NotBuilt, Undefined, IdsSpent, NoGraph, Unwritten, OutOfMemory}
 use Rattle.gcore.proofs.inputs.read_query.Goals as goal
 
 -- a file that was read, and what is due of its bytes
-due_of : (graphs : List (List ℕ)) (files : Files) (name bytes : List ℕ) (due : Result QueryFile Stop) → file_due files name query_limit ≡ Ok bytes → query_file_of graphs bytes ≡ due → query_file_due graphs files name ≡ due
+due_of : (graphs : List (List ℕ)) (files : Files) (name bytes : List ℕ) (due : Result PlacedFile Stop) → file_due files name query_limit ≡ Ok bytes → query_file_of graphs bytes ≡ due → query_file_due graphs files name ≡ due
 due_of graphs files name bytes due f h = ap (λ d. then_due d (query_file_of graphs)) f ∙ h
 
 read_file_of : (graphs : List (List ℕ)) (told : Option Files) (before after : ℕ) (name bytes : List ℕ) (r : Result Checked Stop) → IfSome told (λ files. file_due files name query_limit ≡ Ok bytes)
     → IsFileOf (query_file_of graphs bytes) r → ReadsQuery (record { files = told; faults_before = before; faults_after = after }) name (λ files. query_file_due graphs files name) r
 read_file_of graphs None before after name bytes (Ok checked) f h = tt
-read_file_of graphs (Some files) before after name bytes (Ok checked) f h = due_of graphs files name bytes (Ok (file_of checked)) f h
+read_file_of graphs (Some files) before after name bytes (Ok checked) f h = due_of graphs files name bytes (Ok (placed checked)) f h
 read_file_of graphs None before after name bytes (Err (Text refusal)) f h = tt
 read_file_of graphs (Some files) before after name bytes (Err (Text refusal)) f h = due_of graphs files name bytes (Err (Text refusal)) f h
 read_file_of graphs None before after name bytes (Err (Sorts rule place)) f h = tt
@@ -27,6 +26,9 @@ read_file_of graphs told before after name bytes (Err Usage) f h = absurd h
 read_file_of graphs told before after name bytes (Err (Unread file)) f h = absurd h
 read_file_of graphs told before after name bytes (Err (TooLarge file)) f h = absurd h
 read_file_of graphs told before after name bytes (Err (Refused refusal file)) f h = absurd h
+read_file_of graphs told before after name bytes (Err (Undefined why place row)) f h = absurd h
+read_file_of graphs told before after name bytes (Err (IdsSpent place needed)) f h = absurd h
+read_file_of graphs told before after name bytes (Err NoGraph) f h = absurd h
 read_file_of graphs told before after name bytes (Err Unwritten) f h = absurd h
 
 pub returns-clause-outcome : goal.returns-clause-outcome

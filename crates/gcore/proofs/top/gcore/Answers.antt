@@ -7,7 +7,7 @@ use Rattle.gcore.specs.declared.command.Command.{Command}
 use Rattle.gcore.specs.declared.command.Command.TheVariants.{Run, Cert, Explain, Check, Make}
 use Rattle.gcore.specs.declared.pair.Pair.{Pair}
 use Rattle.gcore.specs.declared.stop.Stop.{Stop}
-use Rattle.gcore.specs.declared.stop.Stop.TheVariants.{Usage, Unread, TooLarge, Refused, Text, Sorts, NotBuilt, Unwritten, OutOfMemory}
+use Rattle.gcore.specs.declared.stop.Stop.TheVariants.{Usage, Unread, TooLarge, Refused, Text, Sorts, NotBuilt, Undefined, IdsSpent, NoGraph, Unwritten, OutOfMemory}
 use Rattle.gcore.proofs.top.gcore.Goals as goal
 
 abbrev files_of : List Pair → List (List ℕ)
@@ -56,6 +56,9 @@ may_stop call (Refused refusal file) held h = (is_named_graph call.command call.
 may_stop call (Text refusal) held h = (has_query call.command call.files h.0, held)
 may_stop call (Sorts rule place) held h = (has_query call.command call.files h.0, held)
 may_stop call NotBuilt held h = tt
+may_stop call (Undefined why place row) held h = (has_query call.command call.files h.0, held.0, held.1)
+may_stop call (IdsSpent place needed) held h = (has_query call.command call.files h.0, held.0, held.1)
+may_stop call NoGraph held h = tt
 may_stop call Unwritten held h = tt
 may_stop call OutOfMemory held h = tt
 

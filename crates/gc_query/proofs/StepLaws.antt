@@ -1,0 +1,74 @@
+-- What a statement does to what stands, by what its query comes to.
+use Rattle.std.proofs.Common.{◌≡◌, ◌<◌, ◌+◌, ◌&&◌, ℕ, zero, suc, Bool, true, false, List, [], ◌∷◌, map, length, get_or, Option, Some, None, Result, Ok, Err, refl, sym, ap, subst, ◌∙◌, arith, slice_get, rules}
+use Rattle.std.specs.List.{list_all}
+use Rattle.std.specs.Result.{IsErr, IsErrAnd}
+use Rattle.gc_ast.specs.QueryViews.{query_tree, statement_tree}
+use Rattle.gc_ast.specs.Trees.{Tree, AQuery, AStatement, Ask}
+use Rattle.gc_ast.specs.Trees as tree
+use Rattle.gc_ast.specs.declared.query.Query.{Query}
+use Rattle.gc_ast.specs.declared.query.Statement.{Statement}
+use Rattle.gc_ast.specs.declared.query.Statement.TheVariants as statement
+use Rattle.gc_base.specs.declared.place.NameAt.{NameAt}
+use Rattle.gc_catalog.specs.NamedGraphs.{NamedGraphs}
+use Rattle.gc_expr.specs.Views.{Names}
+use Rattle.gc_lower.specs.Scopes.{Scope}
+use Rattle.gc_spec.specs.PropertyGraph.{PropertyGraph}
+use Rattle.gc_query.specs.Answered.{IsAnswered}
+use Rattle.gc_query.specs.Built.{built}
+use Rattle.gc_query.specs.Queries.{Denotes}
+use Rattle.gc_query.specs.Standings.{Made}
+use Rattle.gc_query.specs.Steps.{IsStep, standing}
+use Rattle.gc_query.specs.declared.fault.Fault.{Fault}
+use Rattle.gc_query.specs.declared.fault.QueryRefusal.{QueryRefusal}
+use Rattle.gc_query.specs.declared.fault.QueryRefusal.TheVariants as refusal
+use Rattle.gc_query.proofs.AllOf.{got}
+
+-- a query statement that is refused
+module _ (s : Scope) (before : NamedGraphs) (query : Tree AQuery) where
+  told : (r : QueryRefusal) → IsAnswered (Denotes s (standing before) query) (Err r) → IsStep s before before (Ask query) (Err r)
+  told (refusal.Fault fault) d = ((Err fault, d, refl), refl)
+  told refusal.Memory d = refl
+
+  pub step_refused : (result : Result (Option PropertyGraph) QueryRefusal) (r : QueryRefusal) → IsErr result → IsErrAnd result (λ other. other ≡ r)
+      → IsAnswered (Denotes s (standing before) query) (Err r) → IsStep s before before (Ask query) result
+  step_refused (Ok printed) r err same d = absurd same
+  step_refused (Err other) r err same d = subst (λ x. IsStep s before before (Ask query) (Err x)) (sym same) (told r d)
+
+-- which statements are built
+module _ (s : Scope) (names : Names) where
+  pub ask_built : (x : Statement) (q : Query) → x ≡ statement.Ask q → built s (statement_tree names x) ≡ true → built s (query_tree names q) ≡ true
+  unfolding built
+  ask_built x q is h = subst (λ y. built s (statement_tree names y) ≡ true) is h
+
+  pub view_unbuilt : (x : Statement) (name : NameAt) (q : Query) → x ≡ statement.View name q → built s (statement_tree names x) ≡ true → ⊥
+  unfolding built
+  view_unbuilt x name q is h = let f : false ≡ true = subst (λ y. built s (statement_tree names y) ≡ true) is h in absurd (cc)
+
+one_of : {X : Type 0} (p : X → Bool) (xs : List X) (i : ℕ) (x : X) → slice_get xs i ≡ Some x → list_all p xs ≡ true → p x ≡ true
+one_of p [] i x at h = cc
+one_of p (y ∷ ys) zero x at h = let e : y ≡ x = cc in ap p (sym e) ∙ first (p y) (list_all p ys) h
+  where
+    first : (a b : Bool) → (a && b) ≡ true → a ≡ true
+    first true b h = refl
+    first false b h = h
+one_of p (y ∷ ys) (suc i) x at h = one_of p ys i x at (second (p y) (list_all p ys) h)
+  where
+    second : (a b : Bool) → (a && b) ≡ true → b ≡ true
+    second true b h = h
+    second false b h = cc
+
+mapped_at : {X Y : Type 0} (f : X → Y) (xs : List X) (i : ℕ) (x : X) → slice_get xs i ≡ Some x → slice_get (map f xs) i ≡ Some (f x)
+mapped_at f [] i x at = cc
+mapped_at f (y ∷ ys) zero x at = let e : y ≡ x = cc in ap (λ z. Some (f z)) e
+mapped_at f (y ∷ ys) (suc i) x at = mapped_at f ys i x at
+
+some_same : {X : Type 0} (x y : X) → Some x ≡ Some y → x ≡ y
+some_same x y h = cc
+
+module _ (s : Scope) (names : Names) (statements : List Statement) (i : ℕ) (x : Statement) (there : i < length statements) (is : x ≡ get_or statements i x) where
+  -- the statement of a number is built, where all are; and it is the statement there
+  pub statement_built : list_all (built s) (map (statement_tree names) statements) ≡ true → built s (statement_tree names x) ≡ true
+  statement_built h = one_of (built s) (map (statement_tree names) statements) i (statement_tree names x) (mapped_at (statement_tree names) statements i x (got statements i x there is)) h
+
+  pub statement_is : (t : Tree AStatement) → slice_get (map (statement_tree names) statements) i ≡ Some t → statement_tree names x ≡ t
+  statement_is t at = some_same (statement_tree names x) t (sym (mapped_at (statement_tree names) statements i x (got statements i x there is)) ∙ at)

@@ -1,0 +1,99 @@
+-- What a query comes to: a graph, or a fault.
+use Rattle.std.specs.Prelude.{◌≡◌, ℕ, Bool, true, false, ◌&&◌, nat_le, List, [], ◌∷◌, ◌++◌, map, Result, Ok, Err, slice_get}
+use Rattle.std.specs.Option.{unwrap_or}
+use Rattle.gc_ast.specs.Trees.{Tree, AQuery, ATerm, AHead, ANextTerm, AStatement, RowOf, Query, NextTerm, BasicTerm, GraphTerm, QueryTerm, PathHead, GraphHead, none, more}
+use Rattle.gc_ast.specs.declared.query.SetOp.{SetOp}
+use Rattle.gc_ast.specs.declared.query.SetOp.TheVariants as op
+use Rattle.gc_lower.specs.Scopes.{Scope, number_at}
+use Rattle.gc_sets.specs.Differences.{difference}
+use Rattle.gc_sets.specs.Intersections.{IsIntersection}
+use Rattle.gc_sets.specs.Unions.{IsUnion}
+use Rattle.gc_ppg.specs.FreeIds.{first_free}
+use Rattle.gc_ppg.specs.Shapes.{graph_agrees}
+use Rattle.gc_spec.specs.Coherence.{shapes_of}
+use Rattle.gc_spec.specs.PropertyGraph.{PropertyGraph}
+use Rattle.gc_query.specs.Basics.{DenotesBasic}
+use Rattle.gc_query.specs.Standings.{Standing, Made}
+use Rattle.gc_query.specs.declared.fault.Fault.{Fault}
+use Rattle.gc_query.specs.declared.fault.Fault.TheVariants.{NoGraph}
+
+-- Take two graphs g and h, where the next identity is 5. `CONSTRUCT (x) MATCH (n) ON g UNION h`, where g has one node, comes to the
+-- graph of a new node 5 and of all that h has; the next identity is then 6.
+
+-- a fault is the outcome of all that it stands in; after a graph comes what is next
+abbrev pub Then : {A : Type 0} → Result A Fault → (A → Result Made Fault → Type 0) → Result Made Fault → Type 0
+Then (Err fault) next outcome = outcome ≡ Err fault
+Then (Ok x) next outcome = next x outcome
+
+-- the graph of a number, where the sort rules let no name be without one; else it would be that without elements
+abbrev pub no_elements : PropertyGraph
+no_elements = record { nodes = []; edges = []; paths = [] }
+
+abbrev pub graph_of_number : List PropertyGraph → ℕ → PropertyGraph
+graph_of_number graphs number = unwrap_or (slice_get graphs number) no_elements
+
+-- the graph that a name stands for, which leaves the next identity as it is
+abbrev pub named : Standing → (number : ℕ) → Made
+named at number = record { graph = graph_of_number at.graphs number; next = at.next }
+
+-- UNION, INTERSECT and MINUS
+abbrev pub IsCombined : SetOp → (a b g : PropertyGraph) → Type 0
+IsCombined op.Union a b g = IsUnion a b g
+IsCombined op.Intersect a b g = IsIntersection a b g
+IsCombined op.Minus a b g = g ≡ difference a b
+
+-- whether each identity of a graph stands for the same in some graphs
+abbrev pub agrees_with : List PropertyGraph → PropertyGraph → Bool
+agrees_with graphs g = graph_agrees (map shapes_of graphs) g
+
+-- graphs that agree are combined; others have no graph
+abbrev pub Combines : SetOp → PropertyGraph → Made → Result Made Fault → Type 0
+Combines op a b (Ok made) = (agrees_with (a ∷ []) b.graph ≡ true) × IsCombined op a b.graph made.graph × (made.next ≡ b.next)
+Combines op a b (Err NoGraph) = agrees_with (a ∷ []) b.graph ≡ false
+Combines op a b (Err fault) = ⊥
+
+-- whether a graph fits beside those that stand: it agrees with them, and its identities are below the next one
+abbrev pub fits : Standing → Made → Bool
+fits at made = agrees_with at.graphs made.graph && nat_le (first_free made.graph) made.next
+
+-- with one more graph, under the next number
+abbrev pub with_made : Standing → Made → Standing
+with_made at made = record { graphs = at.graphs ++ made.graph ∷ []; next = made.next }
+
+-- a graph stands for what is next, where it fits
+abbrev pub StandsIf : Bool → (Result Made Fault → Type 0) → Result Made Fault → Type 0
+StandsIf true next outcome = next outcome
+StandsIf false next outcome = outcome ≡ Err NoGraph
+
+abbrev pub Stands : Standing → (Standing → Result Made Fault → Type 0) → Made → Result Made Fault → Type 0
+Stands at next made outcome = StandsIf (fits at made) (next (with_made at made)) outcome
+
+-- the same graphs with a later next identity
+abbrev pub from_next : Standing → (next : ℕ) → Standing
+from_next at next = record { graphs = at.graphs; next = next }
+
+unfoldable mutual
+  -- what a query comes to: its heads in the order of the text, and under them its terms from the left
+  pub Denotes : Scope → Standing → Tree AQuery → Result Made Fault → Type 0
+  Denotes s at (Query heads first rest) =
+      Headed s at heads (λ under outcome. (left : Result Made Fault) × DenotesTerm s under first left × Then left (λ made. Joined s under.graphs made rest) outcome)
+
+  -- what comes under heads: each named graph stands for all that follows; a view is evaluated where it is used
+  pub Headed : Scope → Standing → Tree (RowOf AHead) → (Standing → Result Made Fault → Type 0) → Result Made Fault → Type 0
+  Headed s at none under = λ outcome. under at outcome
+  Headed s at (more (PathHead name chains filter cost) heads) under = λ outcome. Headed s at heads under outcome
+  Headed s at (more (GraphHead name query) heads) under =
+      λ outcome. (local : Result Made Fault) × Denotes s at query local × Then local (Stands at (λ more_stand. Headed s more_stand heads under)) outcome
+
+  -- a term: a CONSTRUCT with its MATCH, a graph by name, or a query in parentheses
+  pub DenotesTerm : Scope → Standing → Tree ATerm → Result Made Fault → Type 0
+  DenotesTerm s at (BasicTerm basic) = λ outcome. DenotesBasic s at basic outcome
+  DenotesTerm s at (GraphTerm g) = λ outcome. outcome ≡ Ok (named at (number_at s.graph_at g.token))
+  DenotesTerm s at (QueryTerm query) = λ outcome. Denotes s at query outcome
+
+  -- a graph with later terms, each combined with what stands at its left
+  pub Joined : Scope → (graphs : List PropertyGraph) → Made → Tree (RowOf ANextTerm) → Result Made Fault → Type 0
+  Joined s graphs left none = λ outcome. outcome ≡ Ok left
+  Joined s graphs left (more (NextTerm op term) later) =
+      λ outcome. (right : Result Made Fault) × DenotesTerm s (record { graphs = graphs; next = left.next }) term right
+      × Then right (λ made whole. (both : Result Made Fault) × Combines op left.graph made both × Then both (λ joined. Joined s graphs joined later) whole) outcome

@@ -1,0 +1,88 @@
+ghost use Rattle.std.specs.Prelude.{◌≡◌, [], map, IfOk};
+ghost use Rattle.std.specs.List.{list_all};
+ghost use Rattle.gc_ast.specs.QueryViews.{basic_tree, next_term_tree, query_tree, statement_tree, term_tree};
+ghost use Rattle.gc_ast.specs.Trees.{row};
+ghost use Rattle.gc_lower.specs.Namings.{file_of, scope_of};
+ghost use Rattle.gc_lower.specs.Blocks.{block_of};
+ghost use Rattle.gc_query.specs.Built.{built, is_built, no_walks};
+
+use crate::blocks::no_walks;
+use gc_ast::{Basic, NextTerm, Query, Statement, Term};
+use gc_base::Memory;
+use gc_lower::lower_match;
+use gc_sorts::Checked;
+use std::alloc::Global;
+
+/// Whether all of a query file is built: no statement of it looks for a walk, names a graph for later
+/// statements or has heads.
+pub fn is_built(alloc: Global, checked: &Checked) -> Result<bool, Memory>
+    ensures { IfOk result (λ b. b ≡ is_built (file_of checked.now)) }
+{
+    for statement in &checked.file().statements {
+        if !statement_is_built(statement, alloc, checked)? {
+            return Ok(false);
+        }
+    }
+    Ok(true)
+}
+
+#[tactic(auto, unfolding(crate::specs::Built::built))]
+fn statement_is_built(
+    statement: &Statement,
+    alloc: Global,
+    checked: &Checked,
+) -> Result<bool, Memory>
+    ensures { IfOk result (λ b. b ≡ built (scope_of checked.now 0) (statement_tree checked.now.file.names statement.now)) }
+{
+    match statement {
+        Statement::Ask(query) => query_is_built(query, alloc, checked),
+        Statement::View { name: _, query: _ } => Ok(false),
+    }
+}
+
+#[tactic(auto, unfolding(crate::specs::Built::built))]
+#[cycle(built)]
+fn query_is_built(query: &Query, alloc: Global, checked: &Checked) -> Result<bool, Memory>
+    ensures { IfOk result (λ b. b ≡ built (scope_of checked.now 0) (query_tree checked.now.file.names query.now)) }
+{
+    if !query.heads.is_empty() {
+        return Ok(false);
+    }
+    if !term_is_built(&query.first, alloc, checked)? {
+        return Ok(false);
+    }
+    rest_is_built(&query.rest, alloc, checked)
+}
+
+#[tactic(auto, unfolding(crate::specs::Built::built))]
+#[cycle(built)]
+fn rest_is_built(rest: &[NextTerm], alloc: Global, checked: &Checked) -> Result<bool, Memory>
+    ensures { IfOk result (λ b. b ≡ built (scope_of checked.now 0) (row (map (next_term_tree checked.now.file.names) rest.now))) }
+{
+    for next in rest {
+        if !term_is_built(&next.term, alloc, checked)? {
+            return Ok(false);
+        }
+    }
+    Ok(true)
+}
+
+#[tactic(auto, unfolding(crate::specs::Built::built))]
+#[cycle(built)]
+fn term_is_built(term: &Term, alloc: Global, checked: &Checked) -> Result<bool, Memory>
+    ensures { IfOk result (λ b. b ≡ built (scope_of checked.now 0) (term_tree checked.now.file.names term.now)) }
+{
+    match term {
+        Term::Basic(basic) => basic_is_built(basic, alloc, checked),
+        Term::Graph(_) => Ok(true),
+        Term::Query(query) => query_is_built(query, alloc, checked),
+    }
+}
+
+// Whether the MATCH of a CONSTRUCT looks for no walk.
+fn basic_is_built(basic: &Basic, alloc: Global, checked: &Checked) -> Result<bool, Memory>
+    ensures { IfOk result (λ b. b ≡ no_walks (block_of (scope_of checked.now 0) [] (basic_tree checked.now.file.names basic.now))) }
+{
+    let lowered = lower_match(alloc, checked, basic)?;
+    Ok(no_walks(&lowered.block))
+}

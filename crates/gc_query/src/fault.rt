@@ -1,0 +1,33 @@
+use gc_base::Memory;
+use gc_values::Why;
+
+/// Why a statement has no graph. Places are numbers of tokens.
+#[derive(Clone, Copy, Debug)]
+pub enum Fault {
+    /// An assignment is undefined on a row of the table, which is numbered from 0; `at` is the word of its
+    /// property.
+    Undefined { at: u32, row: u64, why: Why },
+    /// So many new identities are needed that they would pass the largest; `at` is the word CONSTRUCT.
+    IdsSpent { at: u32, needed: u64 },
+    /// What is claimed is no graph, or one that does not agree with a graph beside it. No query file that
+    /// the sort rules let pass is known to come to it.
+    NoGraph,
+}
+
+/// Why a statement is not answered.
+#[derive(Clone, Copy, Debug)]
+pub enum QueryRefusal {
+    Fault(Fault),
+    Memory,
+}
+
+impl From<Memory> for QueryRefusal {
+    ghost use Rattle.std.specs.Prelude.{◌≡◌};
+    ghost use Rattle.gc_query.specs.declared.fault.QueryRefusal.TheVariants.{Memory};
+
+    ghost from_gives = { λ _ refusal. refusal ≡ Memory };
+
+    fn from(_want: Memory) -> QueryRefusal {
+        QueryRefusal::Memory
+    }
+}

@@ -1,0 +1,91 @@
+ghost use Rattle.std.specs.Prelude.{◌≡◌, ◌<◌, true, length};
+ghost use Rattle.gc_ast.specs.QueryViews.{file_trees, query_tree, statement_tree};
+ghost use Rattle.gc_ast.specs.Trees.{Ask};
+ghost use Rattle.gc_lower.specs.Namings.{file_of, scope_of};
+ghost use Rattle.gc_query.specs.Answered.{IsAnswered, Rises};
+ghost use Rattle.gc_query.specs.Built.{built, is_built};
+ghost use Rattle.gc_query.specs.Queries.{Denotes};
+ghost use Rattle.gc_query.specs.Steps.{IsStep, IsStepAt, standing};
+
+use crate::fault::QueryRefusal;
+use crate::made::Made;
+use crate::queries::query_made;
+use crate::session::Session;
+use gc_ast::{Query, Statement};
+use gc_base::Steps;
+use gc_catalog::Catalog;
+use gc_ppg::Graph;
+use gc_sorts::Checked;
+use std::alloc::Global;
+use std::sync::ledger::Ledger;
+
+/// Evaluates the statement of a number over the graphs of a catalog, and gives the graph that it prints. The
+/// file has to be built. It is refused with the statement's fault exactly where it has one; after a refusal
+/// the catalog is as before. `steps` counts what is read.
+pub fn step<L: Ledger>(
+    alloc: Global,
+    checked: &Checked,
+    i: usize,
+    catalog: &mut Catalog,
+    steps: &mut Steps<L>,
+) -> Result<Option<Graph>, QueryRefusal>
+    requires built { is_built (file_of checked.now) ≡ true }
+    requires there { i < length (file_trees checked.now.file) }
+    ensures { IsStepAt (scope_of checked.now 0) catalog.old catalog.new (file_trees checked.now.file) i result }
+{
+    statement_step(alloc, checked, &checked.file().statements[i], catalog, steps)
+}
+
+// Evaluates a statement.
+fn statement_step<L: Ledger>(
+    alloc: Global,
+    checked: &Checked,
+    statement: &Statement,
+    catalog: &mut Catalog,
+    steps: &mut Steps<L>,
+) -> Result<Option<Graph>, QueryRefusal>
+    requires { built (scope_of checked.now 0) (statement_tree checked.now.file.names statement.now) ≡ true }
+    ensures { IsStep (scope_of checked.now 0) catalog.old catalog.new (statement_tree checked.now.file.names statement.now) result }
+{
+    match statement {
+        Statement::Ask(query) => ask_step(alloc, checked, query, catalog, steps),
+        // No graph view is built.
+        Statement::View { name: _, query: _ } => unreachable!(),
+    }
+}
+
+// Evaluates a query statement, which prints its graph.
+fn ask_step<L: Ledger>(
+    alloc: Global,
+    checked: &Checked,
+    query: &Query,
+    catalog: &mut Catalog,
+    steps: &mut Steps<L>,
+) -> Result<Option<Graph>, QueryRefusal>
+    requires { built (scope_of checked.now 0) (query_tree checked.now.file.names query.now) ≡ true }
+    ensures { IsStep (scope_of checked.now 0) catalog.old catalog.new (Ask (query_tree checked.now.file.names query.now)) result }
+{
+    let made = answered(alloc, checked, query, catalog, steps)?;
+    catalog.set_next(made.next);
+    Ok(Some(made.graph))
+}
+
+// What a query comes to over the graphs of a catalog.
+fn answered<L: Ledger>(
+    alloc: Global,
+    checked: &Checked,
+    query: &Query,
+    catalog: &Catalog,
+    steps: &mut Steps<L>,
+) -> Result<Made, QueryRefusal>
+    requires { built (scope_of checked.now 0) (query_tree checked.now.file.names query.now) ≡ true }
+    ensures due { IsAnswered (Denotes (scope_of checked.now 0) (standing catalog.now) (query_tree checked.now.file.names query.now)) result }
+    ensures rises { Rises catalog.now.next result }
+{
+    let session = Session {
+        alloc,
+        checked,
+        graphs: catalog.graphs(),
+    };
+    query_made(query, &session, catalog.next(), steps)
+}
