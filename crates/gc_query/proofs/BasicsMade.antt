@@ -84,9 +84,9 @@ module _ (s : Scope) (names : Names) (at : Standing) (basic : Basic) (block : Bl
         table = table;
         matched = subst (λ (b : Tree ABlock). IsTableOfBlock (setting at.graphs b []) table) is matched;
         made =
-        subst (λ token. ComesTo (read_on s at (basic_tree names basic) table) (recipe_of s table.schema (basic_tree names basic)) at.next token outcome) (sym (token_is names basic))
-        (subst (λ (reads : List ReadUse). ComesTo (record { schema = table.schema; rows = table.rows; reads = reads; graphs = at.graphs }) (recipe_of s table.schema (basic_tree names basic)) at.next (out-Basic basic).token outcome)
-        (sym (reads_are block) ∙ ap reads_of is) made);
+            subst (λ token. ComesTo (read_on s at (basic_tree names basic) table) (recipe_of s table.schema (basic_tree names basic)) at.next token outcome) (sym (token_is names basic))
+            (subst (λ (reads : List ReadUse). ComesTo (record { schema = table.schema; rows = table.rows; reads = reads; graphs = at.graphs }) (recipe_of s table.schema (basic_tree names basic)) at.next (out-Basic basic).token outcome)
+            (sym (reads_are block) ∙ ap reads_of is) made);
       }
 
   pub basic_is : (bound_r : Recipe) → bound_r ≡ recipe_of s table.schema (basic_tree names basic) → (outcome : Result (Option Built) Refusal)

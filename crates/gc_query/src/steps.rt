@@ -33,7 +33,13 @@ pub fn step<L: Ledger>(
     requires there { i < length (file_trees checked.now.file) }
     ensures { IsStepAt (scope_of checked.now 0) catalog.old catalog.new (file_trees checked.now.file) i result }
 {
-    statement_step(alloc, checked, &checked.file().statements[i], catalog, steps)
+    statement_step(
+        alloc,
+        checked,
+        &checked.file().statements[i],
+        catalog,
+        steps,
+    )
 }
 
 // Evaluates a statement.

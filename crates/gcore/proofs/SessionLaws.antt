@@ -174,6 +174,7 @@ module _ (r : Request) where
               ∙ ap (room_after room_before) (sym (length-append (texts far.graphs) (texts (printed_by p.answer))) ∙ ap length (sym all))));
           calm = omega (arith, far.calm, p.calm, faults);
         }
+
     -- the beginning of a text behind what was written
     prefix_more : (text : List ℕ) → GainsPrefix now text → GainsPrefix (joined_changes out now) (texts far.graphs ++ text)
     prefix_more text p =
@@ -181,9 +182,14 @@ module _ (r : Request) where
 
     cut : IsCut scope turn statement → RunsSession r (joined_changes out now) (Err Unwritten)
     cut c =
-        let graphs = far.graphs ++ printed_by (says.Prints c.made) in
-        (rises c.failed, (graphs, one_more_begins i at far.graphs far.so_far statement there (says.Prints c.made) c.due tt,
-        subst (GainsPrefix (joined_changes out now)) (sym (texts_more far.graphs (printed_by (says.Prints c.made)))) (prefix_more (texts (printed_by (says.Prints c.made))) c.begun)))
+        let graphs = far.graphs ++ printed_by (says.Prints c.made) in (
+          rises c.failed,
+          (
+            graphs,
+            one_more_begins i at far.graphs far.so_far statement there (says.Prints c.made) c.due tt,
+            subst (GainsPrefix (joined_changes out now)) (sym (texts_more far.graphs (printed_by (says.Prints c.made)))) (prefix_more (texts (printed_by (says.Prints c.made))) c.begun),
+          ),
+        )
       where
         rises : Failed now → Failed (joined_changes out now)
         rises h = omega (arith, h, far.calm, faults)

@@ -7,10 +7,10 @@ ghost use Rattle.gcore.specs.QueryFiles.{placed};
 ghost use Rattle.gcore.specs.declared.command.Command.TheVariants.{Run};
 
 use crate::command::Command;
-use crate::session::run_session;
 use crate::graphs::read_graphs;
 use crate::inputs::read_query;
 use crate::pair::{Pair, names_of};
+use crate::session::run_session;
 use crate::stop::Stop;
 use gc_base::{Steps, Str};
 use gc_catalog::Catalog;

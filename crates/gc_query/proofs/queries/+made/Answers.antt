@@ -69,7 +69,7 @@ joined-loop-later-preserved g t c =
       later = omega (arith, inv.later, ap (λ (m : Made). m.next) same, c.in_ok-right.ensures.rises, both.2);
       most = omega (arith, c.in_ok-right.ensures.rises, both.2);
       leads = λ outcome j. inv.leads outcome (subst (λ l. Joined s graphs l (tree.row (map (next_term_tree names) (drop c.loop-later.later-index c.args.rest.now))) outcome) same
-      (joins s names graphs c.args.rest.now c.loop-later.later-index c.later-item.result at left c.in_ok-right.right c.in_ok-right.ensures.due c.in_ok-left.left both outcome j));
+          (joins s names graphs c.args.rest.now c.loop-later.later-index c.later-item.result at left c.in_ok-right.right c.in_ok-right.ensures.due c.in_ok-left.left both outcome j));
     }
 
 pub query_made-term_made-requires : goal.query_made-term_made-requires
@@ -81,7 +81,7 @@ query_made-joined-requires g t c κs within =
     let s : Scope = scope_in c.args.session.now in
     let names : Names = names_in c.args.session.now in
     let is : built s (tree.row (map (next_term_tree names) c.deref.result.now)) ≡ true =
-        ap (λ items. built s (tree.row (map (next_term_tree names) items))) c.deref.ensures.value ∙ rest_is s names c.args.query.now c.requires.built in
+    ap (λ items. built s (tree.row (map (next_term_tree names) items))) c.deref.ensures.value ∙ rest_is s names c.args.query.now c.requires.built in
     (rw c.deref.ensures.value (search (rules, the_lemmas)), (within, (is, c.in_ok-first.ensures.rises.1)))
 
 pub query_made-returns-in_err-first-clause-due : goal.query_made-returns-in_err-first-clause-due
@@ -112,7 +112,7 @@ term_made-query_made-requires g t c κs within =
     let s : Scope = scope_in c.args.session.now in
     let names : Names = names_in c.args.session.now in
     let is : built s (query_tree names c.deref-in-Query.result.now) ≡ true =
-        ap (λ (q : Query). built s (query_tree names q)) c.deref-in-Query.ensures ∙ (sym (of_inner s names c.in-Query.query) ∙ (sym (ap (λ x. built s (term_tree names x)) c.in-Query.is) ∙ c.requires.built)) in
+    ap (λ (q : Query). built s (query_tree names q)) c.deref-in-Query.ensures ∙ (sym (of_inner s names c.in-Query.query) ∙ (sym (ap (λ x. built s (term_tree names x)) c.in-Query.is) ∙ c.requires.built)) in
     (search (rules, the_lemmas), (within, (is, c.requires.most)))
 
 pub term_made-returns-in-Graph-clause-due : goal.term_made-returns-in-Graph-clause-due

@@ -14,7 +14,7 @@ statement_step-requires g c =
     let statements : List Statement = c.args.checked.now.file.statements.items in
     let there : c.args.i < length statements = omega (arith, c.requires.there, length-map statements (statement_tree names)) in
     let is : c.index.result.now ≡ get_or statements c.args.i c.index.result.now =
-        c.index.ensures ∙ ap (λ f. get_or f.statements.items c.args.i c.index.result.now) c.file.ensures.file in
+    c.index.ensures ∙ ap (λ f. get_or f.statements.items c.args.i c.index.result.now) c.file.ensures.file in
     statement_built (scope_of c.args.checked.now 0) names statements c.args.i c.index.result.now there is c.requires.built
 
 pub returns : goal.returns
@@ -23,6 +23,6 @@ returns g c = λ statement at.
     let statements : List Statement = c.args.checked.now.file.statements.items in
     let there : c.args.i < length statements = omega (arith, c.requires.there, length-map statements (statement_tree names)) in
     let is : c.index.result.now ≡ get_or statements c.args.i c.index.result.now =
-        c.index.ensures ∙ ap (λ f. get_or f.statements.items c.args.i c.index.result.now) c.file.ensures.file in
+    c.index.ensures ∙ ap (λ f. get_or f.statements.items c.args.i c.index.result.now) c.file.ensures.file in
     subst (λ t. IsStep (scope_of c.args.checked.now 0) c.args.catalog.now c.statement_step.new.catalog t c.statement_step.result)
     (statement_is (scope_of c.args.checked.now 0) names statements c.args.i c.index.result.now there is statement at) c.statement_step.ensures
