@@ -1,2 +1,3 @@
 pub mod GroupsOf
 pub mod TermLaws
+pub mod WholeRowLaws

@@ -2,3 +2,4 @@ pub mod Keys
 pub mod Numbers
 pub mod Readers
 pub mod Settings
+pub mod WholeRows

@@ -4,6 +4,7 @@ ghost use Rattle.std.specs.Option.{option_copied};
 ghost use Rattle.gc_build_numbers.specs.Keys.{bound_key, end_part, id_of, key_by, keys_of, number_at, term_part, whole};
 ghost use Rattle.gc_build_numbers.specs.Readers.{terms_of};
 ghost use Rattle.gc_build_numbers.specs.Settings.{on_row};
+ghost use Rattle.gc_build_numbers.specs.WholeRows.{row_key};
 ghost use Rattle.gc_rows.specs.Rows.{cells};
 
 use crate::numbered::Numbered;
@@ -147,6 +148,13 @@ fn bound_key(alloc: Global, datum: Option<&Datum>) -> Result<Option<Key>, Memory
         }
         _ => Ok(None),
     }
+}
+
+/// The key that is a whole row.
+pub(crate) fn row_key(alloc: Global, schema: &[Sym], row: &Row) -> Result<Key, Memory>
+    ensures { IfOk result (λ key. key ≡ row_key schema.now row.now) }
+{
+    Ok(key_of(cells(alloc, schema, row)?))
 }
 
 // What the variables of a schema stand for in a row.

@@ -10,6 +10,7 @@ mod numbered;
 mod numbering;
 mod setting;
 mod terms;
+mod whole_rows;
 
 pub use numbered::{Element, Numbered, Numbering};
 pub use numbering::number;

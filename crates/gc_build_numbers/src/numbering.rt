@@ -8,8 +8,9 @@ use crate::elements::{elements, taken_by, which};
 use crate::keys::keys;
 use crate::numbered::{ElementList, Numbered, NumberedList, Numbering, RowElements};
 use crate::setting::Setting;
+use crate::whole_rows::add_rows;
 use gc_base::{Memory, Steps};
-use gc_build_recipe::Variable;
+use gc_build_recipe::{Grouping, Variable};
 use gc_group::{Group, Key, groups};
 use std::alloc::Global;
 use std::sync::ledger::Ledger;
@@ -44,8 +45,13 @@ fn add<L: Ledger>(
 ) -> Result<(), Memory>
     ensures { OnOk result (numbering.new ≡ with_variable setting.now numbering.old variable.now) }
 {
-    let keys = keys(setting, numbering.variables.as_slice(), variable, steps)?;
-    add_by_keys(setting.alloc, numbering, variable, &keys)
+    match &variable.grouping {
+        Grouping::EachRow => add_rows(setting, numbering, variable.var),
+        _ => {
+            let keys = keys(setting, numbering.variables.as_slice(), variable, steps)?;
+            add_by_keys(setting.alloc, numbering, variable, &keys)
+        }
+    }
 }
 
 // The same, by the keys of the rows.
