@@ -1,5 +1,5 @@
 -- A catalog with one more graph is a catalog.
-use Rattle.std.proofs.Common.{◌≡◌, ℕ, suc, ◌+◌, Bool, true, false, cond, ◌||◌, not, nat_lt, nat_eq, List, [], ◌∷◌, ◌++◌, length, Some, None, is_some, refl, sym, ap, ◌∙◌, arith}
+use Rattle.std.proofs.Common.{◌≡◌, ℕ, suc, ◌+◌, Bool, true, false, cond, ◌||◌, not, nat_lt, nat_eq, List, [], ◌∷◌, ◌++◌, length, Some, None, is_some, refl, ◌∙◌, arith}
 use Rattle.std.specs.List.{AllByRecursion, list_any, position_or_len}
 use Rattle.std.specs.Cmp.Lexicographic.{pointwise, nat_list_eq_equiv}
 use Rattle.std.proofs.lemmas.Bool.Decides.{nat_tests}
@@ -8,7 +8,7 @@ use Rattle.std.proofs.lemmas.List.Folds.{list_any-append}
 use Rattle.gc_base.proofs.SetLaws.{AllByRecursion-append}
 use Rattle.gc_spec.specs.PropertyGraph.{PropertyGraph}
 use Rattle.gc_spec.specs.Coherence.{AreCoherent}
-use Rattle.gc_catalog.specs.NamedGraphs.{NamedGraphs, IsCatalog, AreNames, AllCoherent, AreBelow, has_name, number_of, with_graph}
+use Rattle.gc_catalog.specs.NamedGraphs.{NamedGraphs, IsCatalog, AreNames, AllCoherent, AreBelow, has_name, number_of, with_graph, with_local}
 
 first_less : (m : ℕ) → nat_lt 0 (suc m) ≡ true
 first_less m = grind (arith, nat_tests)
@@ -51,8 +51,17 @@ coherent_with (f ∷ gs) g h a = (AllByRecursion-append (AreCoherent f) gs (g �
 pub IsCatalog-with_graph : (c : NamedGraphs) (name : List ℕ) (g : PropertyGraph) → IsCatalog c → is_some (number_of c.names name) ≡ false → AllByRecursion (λ h. AreCoherent h g) c.graphs → AreBelow c.next g
     → IsCatalog (with_graph c name g)
 IsCatalog-with_graph c name g h free agrees below = record {
-  as_many = length-append c.names (name ∷ []) ∙ (ap (λ n. n + 1) h.as_many ∙ sym (length-append c.graphs (g ∷ [])));
+  as_many = omega (arith, h.as_many, length-append c.names (name ∷ []), length-append c.graphs (g ∷ []));
   names = names_with c.names name h.names (no_name c.names name free);
+  coherent = coherent_with c.graphs g h.coherent agrees;
+  below = AllByRecursion-append (AreBelow c.next) c.graphs (g ∷ []) h.below (below, tt);
+  most = h.most;
+}
+
+pub IsCatalog-with_local : (c : NamedGraphs) (g : PropertyGraph) → IsCatalog c → AllByRecursion (λ h. AreCoherent h g) c.graphs → AreBelow c.next g → IsCatalog (with_local c g)
+IsCatalog-with_local c g h agrees below = record {
+  as_many = omega (arith, h.as_many, length-append c.graphs (g ∷ []));
+  names = h.names;
   coherent = coherent_with c.graphs g h.coherent agrees;
   below = AllByRecursion-append (AreBelow c.next) c.graphs (g ∷ []) h.below (below, tt);
   most = h.most;

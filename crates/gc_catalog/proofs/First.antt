@@ -4,14 +4,13 @@ use Rattle.std.specs.List.{AllByRecursion, list_any}
 use Rattle.std.specs.Cmp.Lexicographic.{pointwise}
 use Rattle.gc_spec.specs.PropertyGraph.{PropertyGraph}
 use Rattle.gc_spec.specs.Coherence.{AreCoherent}
-use Rattle.gc_catalog.specs.NamedGraphs.{NamedGraphs, IsCatalog, AreNames, AllCoherent, AreBelow, first_graphs, has_name}
+use Rattle.gc_catalog.specs.NamedGraphs.{NamedGraphs, IsCatalog, AreNames, AllCoherent, AreBelow, first_graphs}
 
-as_many : {X Y : Type 0} (n : ℕ) (xs : List X) (ys : List Y) → length xs ≡ length ys → length (take n xs) ≡ length (take n ys)
-as_many zero xs ys h = refl
-as_many (suc n) [] [] h = refl
-as_many (suc n) [] (y ∷ ys) h = absurd (omega (arith, h))
+as_many : {X Y : Type 0} (n : ℕ) (xs : List X) (ys : List Y) → length xs ≤ length ys → length (take n xs) ≤ length (take n ys)
+as_many zero xs ys h = omega arith
+as_many (suc n) [] ys h = omega arith
 as_many (suc n) (x ∷ xs) [] h = absurd (omega (arith, h))
-as_many (suc n) (x ∷ xs) (y ∷ ys) h = ap suc (as_many n xs ys (omega (arith, h)))
+as_many (suc n) (x ∷ xs) (y ∷ ys) h = omega (arith, as_many n xs ys (omega (arith, h)))
 
 all_first : {X : Type 0} (P : X → Type 0) (n : ℕ) (xs : List X) → AllByRecursion P xs → AllByRecursion P (take n xs)
 all_first P zero xs h = tt

@@ -5,7 +5,7 @@ use Rattle.std.specs.Cmp.Lexicographic.{pointwise}
 use Rattle.gc_spec.specs.PropertyGraph.{PropertyGraph, ids_of}
 use Rattle.gc_spec.specs.Coherence.{AreCoherent}
 
--- graphs by number, the name of each, and the first free identity
+-- graphs by number, the names of the first of them, and the first free identity
 pub record NamedGraphs : Type 0 where
   pub names : List (List ℕ)
   pub graphs : List PropertyGraph
@@ -17,6 +17,10 @@ no_graphs = record { names = []; graphs = []; next = 0 }
 -- with one more graph, under the next number
 abbrev pub with_graph : NamedGraphs → List ℕ → PropertyGraph → NamedGraphs
 with_graph c name g = record c { names = c.names ++ name ∷ []; graphs = c.graphs ++ g ∷ [] }
+
+-- with one more graph behind all, which has no name
+abbrev pub with_local : NamedGraphs → PropertyGraph → NamedGraphs
+with_local c g = record c { graphs = c.graphs ++ g ∷ [] }
 
 -- the first graphs alone, with another first free identity
 abbrev pub first_graphs : NamedGraphs → (count next : ℕ) → NamedGraphs
@@ -44,9 +48,9 @@ abbrev pub AllCoherent : List PropertyGraph → Type 0
 AllCoherent [] = ⊤
 AllCoherent (g ∷ gs) = AllByRecursion (AreCoherent g) gs × AllCoherent gs
 
--- the graphs of a session: a name for each, no name twice, all coherent, every identity below the first that is free
+-- the graphs of a session: no more names than graphs, no name twice, all coherent, every identity below the first that is free
 pub record IsCatalog (c : NamedGraphs) : Type 0 where
-  pub as_many : length c.names ≡ length c.graphs
+  pub as_many : length c.names ≤ length c.graphs
   pub names : AreNames c.names
   pub coherent : AllCoherent c.graphs
   pub below : AllByRecursion (AreBelow c.next) c.graphs

@@ -2,7 +2,7 @@ ghost use Rattle.std.specs.Prelude.{◌≡◌, ◌≤◌, ℕ, IfOk, IfErr, OnOk
 ghost use Rattle.std.specs.List.{AllByRecursion};
 ghost use Rattle.std.specs.Option.{option_copied};
 ghost use Rattle.gc_spec.specs.Coherence.{AreCoherent};
-ghost use Rattle.gc_catalog.specs.NamedGraphs.{NamedGraphs, IsCatalog, first_graphs, no_graphs, with_graph, number_of, AreBelow};
+ghost use Rattle.gc_catalog.specs.NamedGraphs.{NamedGraphs, IsCatalog, first_graphs, no_graphs, with_graph, with_local, number_of, AreBelow};
 ghost use Rattle.gc_catalog.specs.declared.catalog.AddRefusal.TheVariants.{Memory as OutOfMemory};
 
 use gc_base::{Memory, Name};
@@ -46,8 +46,8 @@ impl<T: Drop> From<AllocFailed<T>> for AddRefusal {
     }
 }
 
-/// The graphs of a session, each with a number and a name. All are coherent, and every identity in
-/// them is below `next`.
+/// The graphs of a session by number. The first have names, those behind them have none. All are coherent,
+/// and every identity in them is below `next`.
 #[derive(Drop)]
 pub struct Catalog {
     names: Vec<Name>,
@@ -80,9 +80,10 @@ impl Catalog {
     }
 
     /// Adds a graph under a name, and gives its number. It is refused as `NameTaken` exactly where
-    /// the name is there. The graph has to agree with those that are there, and its identities have
-    /// to be below `next`.
+    /// the name is there. No graph without a name may be there, the graph has to agree with those that
+    /// are, and its identities have to be below `next`.
     pub fn add(&mut self, name: Name, g: Graph) -> Result<u32, AddRefusal>
+        requires named { length self.old.names ≡ length self.old.graphs }
         requires coherent { AllByRecursion (λ h. AreCoherent h g) self.old.graphs }
         requires below { AreBelow self.old.next g }
         ensures number { IfOk result (λ number. number ≡ length self.old.graphs) }
@@ -101,6 +102,20 @@ impl Catalog {
         Ok(number)
     }
 
+    /// Adds a graph without a name, and gives its number. It has to agree with those that are there, and
+    /// its identities have to be below `next`. Where memory is wanting the catalog is as it was.
+    pub fn add_unnamed(&mut self, g: Graph) -> Result<u32, Memory>
+        requires coherent { AllByRecursion (λ h. AreCoherent h g) self.old.graphs }
+        requires below { AreBelow self.old.next g }
+        ensures number { IfOk result (λ number. number ≡ length self.old.graphs) }
+        ensures added { OnOk result (self.new ≡ with_local self.old g) }
+        ensures same { OnErr result (self.new ≡ self.old) }
+    {
+        let number = self.graphs.len();
+        self.graphs.push(g)?;
+        Ok(number)
+    }
+
     /// The number of the graph of a name, or `None` exactly where the name is not there.
     pub fn number_of(&self, name: &Name) -> Option<u32>
         ensures { result ≡ number_of self.now.names name.now }
@@ -112,7 +127,7 @@ impl Catalog {
         }
     }
 
-    /// The name of a graph, or `None` exactly where there is no graph of this number.
+    /// The name of a graph, or `None` exactly where there is no graph of this number, or it has no name.
     pub fn name_at(&self, i: u32) -> Option<&Name>
         ensures name { option_copied result ≡ slice_get self.now.names i }
         ensures valid { IsCatalog self.now }

@@ -1,8 +1,9 @@
 -- What the code of a query gives: what the query denotes, or want of memory.
-use Rattle.std.specs.Prelude.{ℕ, ◌≤◌, Option, Some, None, Result, Ok, Err, IfOk, ⊤}
+use Rattle.std.specs.Prelude.{◌≡◌, ℕ, ◌≤◌, length, take, Option, Some, None, Result, Ok, Err, IfOk, ⊤}
 use Rattle.gc_build.specs.declared.built.Built.{Built}
 use Rattle.gc_build.specs.declared.built.Refusal.{Refusal}
 use Rattle.gc_build.specs.declared.built.Refusal.TheVariants as build
+use Rattle.gc_catalog.specs.NamedGraphs.{NamedGraphs}
 use Rattle.gc_expr.specs.Views.{Names}
 use Rattle.gc_lower.specs.Namings.{scope_of}
 use Rattle.gc_lower.specs.Scopes.{Scope}
@@ -31,12 +32,30 @@ outcome_of token (Err build.Memory) = Err refusal.Memory
 abbrev pub Rises : (next : ℕ) → Result Made QueryRefusal → Type 0
 Rises next result = IfOk result (λ made. (next ≤ made.next) × (made.next ≤ 9007199254740992))
 
--- what stands in a session
+-- what a session reads
 abbrev pub scope_in : Session → Scope
 scope_in s = scope_of s.checked.now 0
 
 abbrev pub names_in : Session → Names
 names_in s = s.checked.now.file.names
 
-abbrev pub standing_in : Session → (next : ℕ) → Standing
-standing_in s next = record { graphs = s.graphs.now; next = next }
+-- what stands in a catalog, where another identity is the next one
+abbrev pub standing_at : NamedGraphs → (next : ℕ) → Standing
+standing_at c next = record { graphs = c.graphs; next = next }
+
+-- a catalog that was added to: the same graphs, and behind them others without names
+pub record IsLonger (before after : NamedGraphs) : Type 0 where
+  pub names : after.names ≡ before.names
+  pub graphs : take (length before.graphs) after.graphs ≡ before.graphs
+  pub count : length before.graphs ≤ length after.graphs
+  pub later : before.next ≤ after.next
+
+-- what the code of heads gives: the next identity beside the graphs that stand then, or the fault that is due
+abbrev pub AreStood : (Result Standing Fault → Type 0) → (after : NamedGraphs) → Result ℕ QueryRefusal → Type 0
+AreStood IsDue after (Ok next) = IsDue (Ok (standing_at after next))
+AreStood IsDue after (Err (refusal.Fault fault)) = IsDue (Err fault)
+AreStood IsDue after (Err refusal.Memory) = ⊤
+
+-- the next identity rises, from that of the catalog on
+abbrev pub RisesOver : (next : ℕ) → (after : NamedGraphs) → Result ℕ QueryRefusal → Type 0
+RisesOver next after result = IfOk result (λ free. (next ≤ free) × (after.next ≤ free) × (free ≤ 9007199254740992))

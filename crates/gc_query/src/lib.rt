@@ -12,6 +12,7 @@ mod fault;
 mod made;
 mod queries;
 mod session;
+mod standing;
 mod steps;
 
 pub use built::is_built;
