@@ -1,8 +1,8 @@
-ghost use Rattle.std.specs.Prelude.{◌≡◌, ◌≤◌, ℕ, IfOk, IfErr, OnOk, OnErr, length, slice_get, take, None};
+ghost use Rattle.std.specs.Prelude.{◌≡◌, ◌≤◌, ℕ, IfOk, IfErr, OnOk, OnErr, length, take, None};
 ghost use Rattle.std.specs.List.{AllByRecursion};
 ghost use Rattle.std.specs.Option.{option_copied};
 ghost use Rattle.gc_spec.specs.Coherence.{AreCoherent};
-ghost use Rattle.gc_catalog.specs.NamedGraphs.{NamedGraphs, IsCatalog, first_graphs, no_graphs, with_graph, with_local, number_of, AreBelow};
+ghost use Rattle.gc_catalog.specs.NamedGraphs.{NamedGraphs, IsCatalog, first_graphs, is_name, name_at, no_graphs, with_graph, with_local, number_of, AreBelow};
 ghost use Rattle.gc_catalog.specs.declared.catalog.AddRefusal.TheVariants.{Memory as OutOfMemory};
 
 use gc_base::{Memory, Name};
@@ -46,11 +46,11 @@ impl<T: Drop> From<AllocFailed<T>> for AddRefusal {
     }
 }
 
-/// The graphs of a session by number. The first have names, those behind them have none. All are coherent,
-/// and every identity in them is below `next`.
+/// The graphs of a session by number, each with a name or without one. All are coherent, and every identity in
+/// them is below `next`.
 #[derive(Drop)]
 pub struct Catalog {
-    names: Vec<Name>,
+    names: Vec<Option<Name>>,
     graphs: GraphList,
     next: u64,
 }
@@ -80,10 +80,9 @@ impl Catalog {
     }
 
     /// Adds a graph under a name, and gives its number. It is refused as `NameTaken` exactly where
-    /// the name is there. No graph without a name may be there, the graph has to agree with those that
-    /// are, and its identities have to be below `next`.
+    /// the name is there. The graph has to agree with those that are there, and its identities have
+    /// to be below `next`.
     pub fn add(&mut self, name: Name, g: Graph) -> Result<u32, AddRefusal>
-        requires named { length self.old.names ≡ length self.old.graphs }
         requires coherent { AllByRecursion (λ h. AreCoherent h g) self.old.graphs }
         requires below { AreBelow self.old.next g }
         ensures number { IfOk result (λ number. number ≡ length self.old.graphs) }
@@ -98,7 +97,7 @@ impl Catalog {
         let number = self.graphs.len();
         self.names.reserve(1)?;
         self.graphs.push(g)?;
-        self.names.push(name)?;
+        self.names.push(Some(name))?;
         Ok(number)
     }
 
@@ -112,7 +111,9 @@ impl Catalog {
         ensures same { OnErr result (self.new ≡ self.old) }
     {
         let number = self.graphs.len();
+        self.names.reserve(1)?;
         self.graphs.push(g)?;
+        self.names.push(None)?;
         Ok(number)
     }
 
@@ -129,10 +130,13 @@ impl Catalog {
 
     /// The name of a graph, or `None` exactly where there is no graph of this number, or it has no name.
     pub fn name_at(&self, i: u32) -> Option<&Name>
-        ensures name { option_copied result ≡ slice_get self.now.names i }
+        ensures name { option_copied result ≡ name_at self.now.names i }
         ensures valid { IsCatalog self.now }
     {
-        self.names.get(i as usize)
+        match self.names.get(i as usize) {
+            Some(Some(name)) => Some(name),
+            Some(None) | None => None,
+        }
     }
 
     /// All graphs, by number.
@@ -175,8 +179,18 @@ impl Catalog {
 }
 
 // The place of a name.
-fn place_of(names: &[Name], name: &Name) -> Option<usize>
+fn place_of(names: &[Option<Name>], name: &Name) -> Option<usize>
     ensures { result ≡ number_of names.now name.now }
 {
-    names.iter().position(|other| other == name)
+    names.iter().position(|other| is_name(other, name))
+}
+
+// Whether a graph's name is this one.
+fn is_name(other: &Option<Name>, name: &Name) -> bool
+    ensures { result ≡ is_name name.now other.now }
+{
+    match other {
+        Some(other) => other == name,
+        None => false,
+    }
 }

@@ -14,11 +14,15 @@ use Rattle.gc_query.specs.declared.fault.QueryRefusal.{QueryRefusal}
 use Rattle.gc_query.specs.declared.fault.QueryRefusal.TheVariants as refusal
 use Rattle.gc_query.specs.declared.session.Session.{Session}
 
--- what is due is given, or the fault that is due; want of memory is free
-abbrev pub IsAnswered : (Result Made Fault → Type 0) → Result Made QueryRefusal → Type 0
+-- a refusal tells the fault that is due, or want of memory, which is free
+abbrev pub IsRefused : (IsDue : Fault → Type 0) → QueryRefusal → Type 0
+IsRefused IsDue (refusal.Fault fault) = IsDue fault
+IsRefused IsDue refusal.Memory = ⊤
+
+-- what is due is given, or refused
+abbrev pub IsAnswered : (IsDue : Result Made Fault → Type 0) → Result Made QueryRefusal → Type 0
 IsAnswered IsDue (Ok made) = IsDue (Ok made)
-IsAnswered IsDue (Err (refusal.Fault fault)) = IsDue (Err fault)
-IsAnswered IsDue (Err refusal.Memory) = ⊤
+IsAnswered IsDue (Err refused) = IsRefused (λ fault. IsDue (Err fault)) refused
 
 -- what a CONSTRUCT at a token comes to, as the outcome of a query
 abbrev pub outcome_of : (token : ℕ) → Result (Option Built) Refusal → Result Made QueryRefusal
@@ -50,11 +54,10 @@ pub record IsLonger (before after : NamedGraphs) : Type 0 where
   pub count : length before.graphs ≤ length after.graphs
   pub later : before.next ≤ after.next
 
--- what the code of heads gives: the next identity beside the graphs that stand then, or the fault that is due
-abbrev pub AreStood : (Result Standing Fault → Type 0) → (after : NamedGraphs) → Result ℕ QueryRefusal → Type 0
+-- the same of what stands in a catalog, of which the next identity is given
+abbrev pub AreStood : (IsDue : Result Standing Fault → Type 0) → (after : NamedGraphs) → Result ℕ QueryRefusal → Type 0
 AreStood IsDue after (Ok next) = IsDue (Ok (standing_at after next))
-AreStood IsDue after (Err (refusal.Fault fault)) = IsDue (Err fault)
-AreStood IsDue after (Err refusal.Memory) = ⊤
+AreStood IsDue after (Err refused) = IsRefused (λ fault. IsDue (Err fault)) refused
 
 -- the next identity rises, from that of the catalog on
 abbrev pub RisesOver : (next : ℕ) → (after : NamedGraphs) → Result ℕ QueryRefusal → Type 0

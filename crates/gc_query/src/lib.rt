@@ -9,6 +9,8 @@ mod blocks;
 mod built;
 mod combining;
 mod fault;
+mod graph_views;
+mod laws;
 mod made;
 mod queries;
 mod session;
@@ -17,4 +19,5 @@ mod steps;
 
 pub use built::is_built;
 pub use fault::{Fault, QueryRefusal};
+pub use laws::a_statement_comes_to_one_answer;
 pub use steps::step;

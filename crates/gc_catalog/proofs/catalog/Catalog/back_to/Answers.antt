@@ -1,4 +1,4 @@
-use Rattle.std.proofs.Common.{take, sym, subst}
+use Rattle.std.proofs.Common.{◌≡◌, take, sym, ap, subst}
 use Rattle.std.specs.List.{AllByRecursion}
 use Rattle.gc_catalog.specs.NamedGraphs.{NamedGraphs, IsCatalog, AreBelow}
 use Rattle.gc_catalog.proofs.First.{IsCatalog-first_graphs}
