@@ -100,7 +100,8 @@ mutual
   unfolding Denotes
   pub one_outcome : (s : Scope) (at : Standing) (query : Tree AQuery) (a b : Result Made Fault) → Denotes s at query a → Denotes s at query b → a ≡ b
   one_outcome s at (Query heads first rest) a b p q =
-      one_then p.0 q.0 (λ now. Terms s now first rest) a b (one_under s at heads p.0 q.0 p.1 q.1) (λ now c d h k. one_of_terms s now first rest c d h k) p.2 q.2
+      one_then p.0 q.0 (λ now. Terms s now first rest) a b (one_under s at heads p.0 q.0 p.1 q.1)
+      (λ now c d h k. one_then h.0 k.0 (λ made. Joined s now.graphs made rest) c d (one_term s now first h.0 k.0 h.1 k.1) (λ made x y f g. one_joined s now.graphs made rest x y f g) h.2 k.2) p.2 q.2
 
   one_under : (s : Scope) (at : Standing) (heads : Tree (RowOf AHead)) (a b : Result Standing Fault) → Heads s at heads a → Heads s at heads b → a ≡ b
   one_under s at none a b p q = p ∙ sym q
@@ -108,10 +109,6 @@ mutual
   one_under s at (more (GraphHead name query) heads) a b p q =
       one_then p.0 q.0 (λ made stands. Then (stood at made) (λ now. Heads s now heads) stands) a b (one_outcome s at query p.0 q.0 p.1 q.1)
       (λ made c d h k. one_then (stood at made) (stood at made) (λ now. Heads s now heads) c d refl (λ now x y f g. one_under s now heads x y f g) h k) p.2 q.2
-
-  one_of_terms : (s : Scope) (at : Standing) (first : Tree ATerm) (rest : Tree (RowOf ANextTerm)) (a b : Result Made Fault) → Terms s at first rest a → Terms s at first rest b → a ≡ b
-  one_of_terms s at first rest a b p q =
-      one_then p.0 q.0 (λ made. Joined s at.graphs made rest) a b (one_term s at first p.0 q.0 p.1 q.1) (λ made x y f g. one_joined s at.graphs made rest x y f g) p.2 q.2
 
   one_term : (s : Scope) (at : Standing) (term : Tree ATerm) (a b : Result Made Fault) → DenotesTerm s at term a → DenotesTerm s at term b → a ≡ b
   one_term s at (BasicTerm basic) a b p q = one_basic s at basic a b p q

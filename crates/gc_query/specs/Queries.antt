@@ -71,7 +71,9 @@ from_next at next = record { graphs = at.graphs; next = next }
 unfoldable mutual
   -- what a query comes to: its heads in the order of the text, and then its terms over what stands under them
   pub Denotes : Scope → Standing → Tree AQuery → Result Made Fault → Type 0
-  Denotes s at (Query heads first rest) = λ outcome. (under : Result Standing Fault) × Heads s at heads under × Then under (λ now. Terms s now first rest) outcome
+  Denotes s at (Query heads first rest) =
+      λ outcome. (under : Result Standing Fault) × Heads s at heads under
+      × Then under (λ now whole. (left : Result Made Fault) × DenotesTerm s now first left × Then left (λ made. Joined s now.graphs made rest) whole) outcome
 
   -- what stands under heads: the graph of each is one more for all that follow; a view is evaluated where it is used
   pub Heads : Scope → Standing → Tree (RowOf AHead) → Result Standing Fault → Type 0
@@ -79,10 +81,6 @@ unfoldable mutual
   Heads s at (more (PathHead name chains filter cost) heads) = λ under. Heads s at heads under
   Heads s at (more (GraphHead name query) heads) =
       λ under. (local : Result Made Fault) × Denotes s at query local × Then local (λ made stands. Then (stood at made) (λ now. Heads s now heads) stands) under
-
-  -- what terms come to, from the left
-  pub Terms : Scope → Standing → Tree ATerm → Tree (RowOf ANextTerm) → Result Made Fault → Type 0
-  Terms s at first rest = λ outcome. (left : Result Made Fault) × DenotesTerm s at first left × Then left (λ made. Joined s at.graphs made rest) outcome
 
   -- a term: a CONSTRUCT with its MATCH, a graph by name, or a query in parentheses
   pub DenotesTerm : Scope → Standing → Tree ATerm → Result Made Fault → Type 0
@@ -96,3 +94,7 @@ unfoldable mutual
   Joined s graphs left (more (NextTerm op term) later) =
       λ outcome. (right : Result Made Fault) × DenotesTerm s (record { graphs = graphs; next = left.next }) term right
       × Then right (λ made whole. (both : Result Made Fault) × Combines op left.graph made both × Then both (λ joined. Joined s graphs joined later) whole) outcome
+
+-- what terms come to over what stands, from the left
+abbrev pub Terms : Scope → Standing → Tree ATerm → Tree (RowOf ANextTerm) → Result Made Fault → Type 0
+Terms s at first rest outcome = (left : Result Made Fault) × DenotesTerm s at first left × Then left (λ made. Joined s at.graphs made rest) outcome
