@@ -14,7 +14,7 @@ import urllib.request
 
 ELEMENT = "element-6066-11e4-a52e-4f735466cecf"
 PATIENCE = 20
-CONTROL, TAB, NO_KEY = "\ue009", "\ue004", "\ue000"
+CONTROL, ENTER, TAB = "\ue009", "\ue007", "\ue004"
 
 
 class NoBrowser(Exception):
@@ -151,10 +151,10 @@ class Driver:
             "field.dispatchEvent(new Event('input', {bubbles: true}));", selector, text,
         )
 
-    def press(self, key):
-        """Presses a key, wherever the page's focus is."""
-        keys = [{"type": "keyDown", "value": key}, {"type": "keyUp", "value": key}]
-        self.call("POST", self.session + "/actions", {"actions": [{"type": "key", "id": "keys", "actions": keys}]})
+    def press(self, *keys):
+        """Presses keys together, wherever the page's focus is."""
+        moves = [{"type": "keyDown", "value": key} for key in keys] + [{"type": "keyUp", "value": key} for key in keys[::-1]]
+        self.call("POST", self.session + "/actions", {"actions": [{"type": "key", "id": "keys", "actions": moves}]})
 
     def hover(self, selector):
         """Moves the pointer over an element."""
