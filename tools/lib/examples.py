@@ -21,7 +21,7 @@ GRAPH = re.compile(r"^([A-Za-z][A-Za-z0-9_]*) = \[[^\]]+\]\(([^)]+)\)$")
 
 @dataclass
 class Example:
-    """One example: its section, its name, the paths of its files, and the blocks that the page shows."""
+    """One example: the title of its page with its section, its name, the paths of its files, and the blocks that the page shows."""
 
     section: str
     name: str
@@ -68,10 +68,11 @@ def blocks_from(lines, at):
 
 def examples_of(page):
     """The examples of one page, in its order."""
-    folder, lines, section, found = os.path.dirname(page), read(page).split("\n"), "", []
+    folder, lines, found = os.path.dirname(page), read(page).split("\n"), []
+    title = section = lines[0].removeprefix("# ")
     for at, line in enumerate(lines):
         if line.startswith("## "):
-            section = line[3:]
+            section = "%s: %s" % (title, line[3:])
         named = LINE.match(line)
         if named:
             query = os.path.normpath(os.path.join(folder, named[2]))

@@ -9,6 +9,7 @@ import sys
 import tempfile
 from concurrent.futures import ThreadPoolExecutor
 
+from play.runs import WRITTEN, Runs
 from play.served import PLAYGROUND, Served, awaited, children_of
 from play.trials_of_page import SLOW, equal, many_nodes
 
@@ -158,6 +159,16 @@ def its_end_ends_what_it_started(program, memory):
             equal(number == signal.SIGKILL or not os.listdir(folder), True, "the folder stands")
 
 
+def runs_have_their_limits(_, __):
+    """A program that asks for more memory, or writes more, than a run may is refused it."""
+    with tempfile.TemporaryDirectory() as room:
+        runs = Runs(room)
+        for text, due in (("bytearray(3 * 1024**3)", b"MemoryError"), ("print('x' * 65 * 1024**2)", b"OSError")):
+            with runs.seat("page0000") as seat:
+                ended = runs.run(seat, sys.executable, ["-I", "-c", text])
+                equal((ended.status == 0, due in ended.err, len(ended.out) <= WRITTEN), (False, True, True))
+
+
 def without_dot_it_shows_tables(program, memory):
     """Where Graphviz is missing, an answer has its tables and says why there is no picture."""
     with tempfile.TemporaryDirectory() as folder:
@@ -176,4 +187,6 @@ def without_a_program_it_says_how_to_build(_, __):
     equal((ended.returncode, "rt run" in ended.stderr), (1, True), ended.stderr)
 
 
-ON_THEIR_OWN = (its_end_ends_what_it_started, without_dot_it_shows_tables, without_a_program_it_says_how_to_build)
+ON_THEIR_OWN = (
+    its_end_ends_what_it_started, runs_have_their_limits, without_dot_it_shows_tables, without_a_program_it_says_how_to_build,
+)

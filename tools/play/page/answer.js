@@ -1,5 +1,7 @@
 // Shows a graph: its picture, what an element is, its paths one by one, and its tables.
 
+// A wide picture shrinks to the place that it has, but not so far that it cannot be read.
+const SMALLEST_SCALE = 0.75;
 const COLUMNS = {
   nodes: ["id", "labels", "properties"],
   edges: ["id", "from", "to", "labels", "properties"],
@@ -72,6 +74,7 @@ function pictureOf(svg, tables, about) {
     }
   }
   place.append(document.adoptNode(drawn));
+  drawn.style.minWidth = SMALLEST_SCALE * drawn.width.baseVal.value + "px";
   return place;
 }
 
