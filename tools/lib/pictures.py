@@ -109,7 +109,7 @@ def dot_of(graph, created=frozenset()):
     colours = colours_of_edges(paths)
     return "\n".join([
         "digraph graph_picture {",
-        '  graph [rankdir=LR, fontname="Helvetica", fontsize=11, bgcolor="transparent"];',
+        '  graph [rankdir=LR, fontname="Helvetica", fontsize=11, bgcolor="white"];',
         '  node [shape=box, style="rounded,filled", fillcolor="#f5f5f5", color="#555555", fontname="Helvetica", fontsize=11];',
         '  edge [fontname="Helvetica", fontsize=10];',
         list_of_paths(paths),
