@@ -2,7 +2,7 @@
 import json
 import shutil
 
-from lib.pictures import dot_of, literal_text, path_colours, values_of
+from lib.pictures import dot_of, literal_text, path_colours, path_text, values_of
 
 PARTS = ("nodes", "edges", "paths")
 MOST_ROWS = 1000
@@ -80,9 +80,18 @@ def row_of(element, created):
 def tables_of(graph, created):
     """The tables of nodes, edges and stored paths, with at most MOST_ROWS rows each, and their whole numbers."""
     tables = {part: [row_of(it, created) for it in graph.get(part, [])[:MOST_ROWS]] for part in PARTS}
-    for row, colour in zip(tables["paths"], path_colours(tables["paths"])):
-        row["colour"] = colour
     return {"tables": tables, "counts": {part: len(graph.get(part, [])) for part in PARTS}}
+
+
+def lights_of(paths):
+    """What can be lit in a picture: each stored path by its text, its walk and its colour."""
+    paths = paths[:MOST_ROWS]
+    return [{"text": "path " + path_text(it), "walk": it["walk"], "colour": colour} for it, colour in zip(paths, path_colours(paths))]
+
+
+def lights_of_walks(walks):
+    """What can be lit in the picture of a search of a certificate: the walks that it found."""
+    return [{"text": "cost %s; walk %s" % (it["cost"], " ".join(map(str, it["walk"]))), "walk": it["walk"]} for it in walks[:MOST_ROWS]]
 
 
 class Artist:
@@ -111,7 +120,15 @@ class Artist:
     def shown(self, graph, created=frozenset()):
         """All that a page shows of a graph."""
         svg, reason = self.picture_of(graph, created)
-        return {**tables_of(graph, created), "svg": svg, "no_picture": reason}
+        lights = lights_of(graph.get("paths", []))
+        return {**tables_of(graph, created), "svg": svg, "no_picture": reason, "lights": lights}
+
+
+def shown_certificate(artist, text):
+    """What a page shows of a certificate: for each search its graph, and the walks that it found."""
+    searches = json.loads(text)["searches"]
+    shown = [artist.shown(search["graph"]) for search in searches]
+    return [{**it, "lights": lights_of_walks(search["walks"])} for it, search in zip(shown, searches)]
 
 
 def shown_answer(artist, lines, graph_texts):

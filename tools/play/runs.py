@@ -106,7 +106,7 @@ class Runs:
 
     def run(self, seat, program, words):
         """Runs a program in the folder of a seat to its end, or to the end of its time."""
-        limits = [str(number) for number in (SECONDS, self.memory, WRITTEN)]
+        limits = [str(number) for number in (os.getpid(), SECONDS, self.memory, WRITTEN)]
         command = [sys.executable, "-I", "-S", LIMITED, *limits, program, *words]
         with tempfile.TemporaryFile(dir=seat.folder) as out, tempfile.TemporaryFile(dir=seat.folder) as err:
             begun = time.monotonic()

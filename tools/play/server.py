@@ -23,6 +23,7 @@ FILES = {
 }
 PAGE_NAME = re.compile(r"[A-Za-z0-9]{8,64}")
 POLICY = "default-src 'none'; script-src 'self'; style-src 'self'; connect-src 'self'; base-uri 'none'; form-action 'none'"
+NOT_BUILT = 11
 DRAINED = 2 * sessions.BODY_BYTES
 PIECE = 65_536
 
@@ -57,12 +58,18 @@ class Playground(ThreadingHTTPServer):
         """Runs a session, and tells what came of it."""
         ended = self.runs.run(seat, self.program, sessions.words_in(seat.folder, session))
         out, err = ended.out.decode("utf-8", "replace"), ended.err.decode("utf-8", "replace")
-        lines = [line for line in out.split("\n") if line] if session.command == "run" and ended.status in (0, 1, 11) else []
         return {
             "status": ended.status, "seconds": round(ended.seconds, 3), "killed": ended.killed, "err": err, **answers.cut(out),
-            "graphs": answers.shown_answer(answers.Artist(self.runs, seat), lines, session.graphs),
+            "graphs": self.graphs_of(seat, session, out) if ended.status in (0, 1, NOT_BUILT) else [],
             "refusal": refusals.refusal_of(err, session) if err.startswith("gcore: ") else None,
         }
+
+    def graphs_of(self, seat, session, out):
+        """What a page shows of the graphs in an output: those of the statements, or of the searches of a certificate."""
+        artist = answers.Artist(self.runs, seat)
+        if session.command == "run":
+            return answers.shown_answer(artist, out.splitlines(), session.graphs)
+        return answers.shown_certificate(artist, out) if session.command == "cert" and out else []
 
     def look(self, seat, text):
         """What a page shows of one graph file."""

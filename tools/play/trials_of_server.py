@@ -169,6 +169,31 @@ def runs_have_their_limits(_, __):
                 equal((ended.status == 0, due in ended.err, len(ended.out) <= WRITTEN), (False, True, True))
 
 
+STAND_IN = """#!%s
+import sys
+print('{"gcore_cert":1,"searches":[{"expression":":to","graph":{"gcore":1,"nodes":[{"id":1},{"id":2}],'
+      '"edges":[{"id":3,"from":1,"to":2}]},"potentials":[],"segments":[],"start":1,'
+      '"walks":[{"cost":"1","run":[],"walk":[1,3,2]}]}]}' if sys.argv[1] == "cert" else sys.argv[1])
+"""
+
+
+def commands_that_are_built_are_offered(_, memory):
+    """Of a program that has all commands all are offered, and of a certificate the walks are told, to be lit."""
+    with tempfile.TemporaryDirectory() as folder, tempfile.TemporaryDirectory() as place:
+        program = os.path.join(place, "stand-in")
+        with open(program, "w", encoding="utf-8", opener=lambda *it: os.open(*it, 0o700)) as file:
+            file.write(STAND_IN % sys.executable)
+        served = Served(program, memory, folder)
+        try:
+            equal(served.ask("GET", "/start")[1]["commands"], ["run", "explain", "cert", "check"])
+            found = served.ask("POST", "/run", session(command="cert"))[1]["graphs"]
+            equal([search["lights"][0]["walk"] for search in found], [[1, 3, 2]])
+            equal(served.ask("POST", "/run", session(command="explain"))[1]["out"], "explain\n")
+            equal(served.ask("POST", "/run", session(command="check", query="x" * 2_000_000))[1]["out"], "check\n")
+        finally:
+            served.end()
+
+
 def without_dot_it_shows_tables(program, memory):
     """Where Graphviz is missing, an answer has its tables and says why there is no picture."""
     with tempfile.TemporaryDirectory() as folder:
@@ -188,5 +213,6 @@ def without_a_program_it_says_how_to_build(_, __):
 
 
 ON_THEIR_OWN = (
-    its_end_ends_what_it_started, runs_have_their_limits, without_dot_it_shows_tables, without_a_program_it_says_how_to_build,
+    its_end_ends_what_it_started, runs_have_their_limits, commands_that_are_built_are_offered, without_dot_it_shows_tables,
+    without_a_program_it_says_how_to_build,
 )

@@ -87,20 +87,20 @@ function light(picture, walk) {
   });
 }
 
-/** The list of the paths of a graph, each with a button that lights it in the picture. */
-function pathsOf(paths, picture) {
+/** The list of the walks of a graph, each with a button that lights it in the picture. */
+function walksOf(lights, picture) {
   const list = made("ul", undefined, "walks");
-  for (const path of paths) {
-    const button = made("button", `path ${lineOf(path)}  (${path.walk.join(" ")})`);
+  for (const { text, walk, colour } of lights) {
+    const button = made("button", text);
     button.setAttribute("aria-pressed", "false");
     button.addEventListener("click", () => {
-      const lights = button.getAttribute("aria-pressed") === "false";
+      const lit = button.getAttribute("aria-pressed") === "false";
       for (const other of list.querySelectorAll("button")) other.setAttribute("aria-pressed", "false");
-      button.setAttribute("aria-pressed", String(lights));
-      light(picture, lights ? path.walk : []);
+      button.setAttribute("aria-pressed", String(lit));
+      light(picture, lit ? walk : []);
     });
     const swatch = made("span", undefined, "swatch");
-    swatch.style.background = path.colour;
+    swatch.style.background = colour ?? "transparent";
     const item = made("li");
     item.append(swatch, button);
     list.append(item);
@@ -115,7 +115,7 @@ export function showGraph(place, graph, isAnswer) {
   if (graph.svg) {
     const picture = pictureOf(graph.svg, graph.tables, about);
     place.append(picture, about);
-    if (graph.tables.paths.length) place.append(pathsOf(graph.tables.paths, picture));
+    if (graph.lights.length) place.append(walksOf(graph.lights, picture));
   } else {
     place.append(made("p", graph.no_picture));
   }

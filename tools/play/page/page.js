@@ -117,11 +117,11 @@ function showMark(refusal) {
   if (editor) editor.show(refusal.mark);
 }
 
-/** Shows the tabs of the graphs of an answer, and one of them. */
-function showAnswer(graphs, at) {
-  const tabs = graphs.map((_, number) => tab("graph " + (number + 1), number === at, () => showAnswer(graphs, number)));
+/** Shows the tabs of the graphs of an answer, or of the searches of a certificate, and one of them. */
+function showAnswer(graphs, at, word) {
+  const tabs = graphs.map((_, number) => tab(`${word} ${number + 1}`, number === at, () => showAnswer(graphs, number, word)));
   find("answer-tabs").replaceChildren(...(graphs.length > 1 ? tabs : []));
-  showGraph(find("answer"), graphs[at], true);
+  showGraph(find("answer"), graphs[at], word === "graph");
 }
 
 /** In words how a run ended. */
@@ -141,7 +141,8 @@ async function run() {
   begin("running ..");
   find("run").disabled = true;
   find("stop").hidden = false;
-  const answer = await ask("run", session);
+  const asked = structuredClone(session);
+  const answer = await ask("run", asked);
   find("run").disabled = false;
   find("stop").hidden = true;
   if (answer.reason) {
@@ -149,7 +150,7 @@ async function run() {
     return;
   }
   note(ending(answer));
-  if (answer.graphs.length) showAnswer(answer.graphs, answer.graphs.length - 1);
+  if (answer.graphs.length) showAnswer(answer.graphs, answer.graphs.length - 1, asked.command === "cert" ? "search" : "graph");
   showText(answer);
   if (answer.refusal) {
     showRefusal(find("refusal"), answer.refusal);
