@@ -8,7 +8,10 @@ PARTS = ("nodes", "edges", "paths")
 MOST_ROWS = 1000
 MOST_DRAWN = 300
 MOST_PICTURES = 20
+MOST_GRAPHS = 50
+MOST_LABELS = 100
 MOST_TEXT = 1_000_000
+MOST_CELL = 1000
 
 
 class NoGraph(Exception):
@@ -64,16 +67,22 @@ def identities_of_texts(texts):
     return set().union(*(identities(json.loads(text)) for text in texts))
 
 
+def cell_of(values):
+    """The text of a list of literals, of at most MOST_CELL characters."""
+    text = ", ".join(literal_text(it) for it in values[:MOST_CELL])
+    return text if len(text) <= MOST_CELL else text[:MOST_CELL] + "…"
+
+
 def row_of(element, created):
     """A row of a table: texts alone, since a page would round large numbers."""
-    row = {"id": str(element["id"]), "created": element["id"] in created, "labels": list(element.get("labels", []))}
-    properties = element.get("properties", {}).items()
-    row["properties"] = [[name, ", ".join(literal_text(it) for it in values_of(value))] for name, value in properties]
+    row = {"id": str(element["id"]), "created": element["id"] in created, "labels": element.get("labels", [])[:MOST_LABELS]}
+    properties = list(element.get("properties", {}).items())[:MOST_LABELS]
+    row["properties"] = [[name[:MOST_CELL], cell_of(values_of(value))] for name, value in properties]
     for key in ("from", "to"):
         if key in element:
             row[key] = str(element[key])
     if "walk" in element:
-        row["walk"] = [str(it) for it in element["walk"]]
+        row["walk"] = [str(it) for it in element["walk"][:MOST_CELL]]
     return row
 
 
@@ -108,12 +117,13 @@ class Artist:
         if sum(len(graph.get(part, [])) for part in PARTS) > MOST_DRAWN:
             return None, "The graph has more than %d elements and is not drawn." % MOST_DRAWN
         if self.drawn == MOST_PICTURES:
-            return None, "Only the first %d graphs are drawn." % MOST_PICTURES
+            return None, "No more graphs are drawn."
         self.drawn += 1
         with open(self.seat.folder + "/dot", "w", encoding="utf-8") as file:
             file.write(dot_of(graph, created))
         ended = self.runs.run(self.seat, program, ["-Tsvg", "dot"])
         if ended.status != 0:
+            self.drawn = MOST_PICTURES
             return None, "Graphviz could not draw the graph."
         return ended.out.decode("utf-8", "replace"), ""
 
@@ -125,18 +135,18 @@ class Artist:
 
 
 def shown_certificate(artist, text):
-    """What a page shows of a certificate: for each search its graph, and the walks that it found."""
-    searches = json.loads(text)["searches"]
+    """What a page shows of a certificate: for each of the first searches its graph, and the walks that it found."""
+    searches = json.loads(text)["searches"][:MOST_GRAPHS]
     shown = [artist.shown(search["graph"]) for search in searches]
     return [{**it, "lights": lights_of_walks(search["walks"])} for it, search in zip(shown, searches)]
 
 
 def shown_answer(artist, lines, graph_texts):
-    """What a page shows of the graphs that the program wrote, a line each."""
+    """What a page shows of the first graphs that the program wrote, a line each."""
     if not lines:
         return []
     known = identities_of_texts(graph_texts)
-    graphs = [json.loads(line) for line in lines]
+    graphs = [json.loads(line) for line in lines[:MOST_GRAPHS]]
     return [artist.shown(graph, identities(graph) - known) for graph in graphs]
 
 

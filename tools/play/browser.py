@@ -13,7 +13,7 @@ import urllib.error
 import urllib.request
 
 ELEMENT = "element-6066-11e4-a52e-4f735466cecf"
-PATIENCE = 20
+PATIENCE = 60
 CONTROL, ENTER, TAB = "\ue009", "\ue007", "\ue004"
 
 

@@ -10,7 +10,7 @@ import time
 from lib.repository import TOP
 
 PLAYGROUND = os.path.join(TOP, "tools", "playground")
-PATIENCE = 20
+PATIENCE = 60
 
 
 def children_of(number):

@@ -5,6 +5,7 @@ Every answer but the page's own files is JSON; one that refuses has the key `rea
 import json
 import os
 import re
+import time
 from http.server import BaseHTTPRequestHandler, ThreadingHTTPServer
 
 from lib.examples import all_examples
@@ -24,7 +25,7 @@ FILES = {
 PAGE_NAME = re.compile(r"[A-Za-z0-9]{8,64}")
 POLICY = "default-src 'none'; script-src 'self'; style-src 'self'; connect-src 'self'; base-uri 'none'; form-action 'none'"
 NOT_BUILT = 11
-DRAINED = 2 * sessions.BODY_BYTES
+BODY_SECONDS = 10
 PIECE = 65_536
 
 
@@ -85,7 +86,7 @@ class Playground(ThreadingHTTPServer):
 class Handler(BaseHTTPRequestHandler):
     """Answers one request."""
 
-    timeout = 10
+    timeout = BODY_SECONDS
     server_version = "gcore-playground"
     sys_version = ""
 
@@ -154,23 +155,33 @@ class Handler(BaseHTTPRequestHandler):
             raise Refused(411, "the request does not tell its length")
         if int(length) > sessions.BODY_BYTES:
             raise Refused(413, "the request has more than %d bytes" % sessions.BODY_BYTES)
+        pieces, left, end = [], int(length), time.monotonic() + BODY_SECONDS
+        while left:
+            pieces.append(self.piece(left, end))
+            left -= len(pieces[-1])
+        return b"".join(pieces)
+
+    def piece(self, left, end):
+        """The next bytes of a body of which so many are left; Refused where none come until `end`."""
         try:
-            body = self.rfile.read(int(length))
+            piece = self.rfile.read1(min(left, PIECE))
         except TimeoutError:
-            raise Refused(408, "the body did not come in time") from None
-        if len(body) < int(length):
+            piece = None
+        if piece is None or time.monotonic() > end:
+            raise Refused(408, "the body did not come in time")
+        if not piece:
             raise Refused(400, "the body is cut short")
-        return body
+        return piece
 
     def drain(self):
-        """Takes what is left of a request that was refused, so that its sender can read why."""
+        """Takes what is left of a request that was refused, for a while, so that its sender can read why."""
         if self.command != "POST":
             return
         self.connection.settimeout(1)
+        end = time.monotonic() + BODY_SECONDS
         try:
-            for _ in range(DRAINED // PIECE):
-                if not self.rfile.read1(PIECE):
-                    break
+            while self.rfile.read1(PIECE) and time.monotonic() < end:
+                pass
         except OSError:
             pass
 

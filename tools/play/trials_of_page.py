@@ -193,10 +193,12 @@ def a_second_page_is_apart(page, _):
     page.fresh()
     first = page.driver.windows()[0]
     page.fill(SLOW, many_nodes(3000))
-    page.driver.click("#run")
     second = page.driver.new_window()
     page.open()
     page.fill("CONSTRUCT (n) MATCH (n)", many_nodes(1))
+    page.driver.to_window(first)
+    page.driver.click("#run")
+    page.driver.to_window(second)
     page.run()
     equal(page.driver.script(NODES), ["node-0"])
     page.driver.to_window(first)

@@ -109,6 +109,21 @@ def requests_that_break_off_are_refused(served):
         connection.sendall(head.encode())
 
 
+def a_body_that_trickles_is_refused(served):
+    """A body whose bytes come one by one holds its place only for a while."""
+    head = "POST /run HTTP/1.1\r\nHost: 127.0.0.1:%d\r\nX-Page: page0000\r\nContent-Length: 1000\r\n\r\n" % served.port
+    with socket.create_connection(("127.0.0.1", served.port), timeout=30) as connection:
+        connection.sendall(head.encode())
+        connection.settimeout(0.5)
+        for _ in range(100):
+            try:
+                seen = connection.recv(4096)
+                break
+            except TimeoutError:
+                connection.sendall(b" ")
+        equal(seen.split(b" ")[1], b"408")
+
+
 def a_long_query_is_ended(served):
     """A query that runs past its time is ended and told."""
     status, answer = served.run(SLOW, many_nodes(3000))
@@ -127,7 +142,8 @@ def twenty_at_once(served):
 
 ON_RUNNING = (
     it_listens_on_loopback_alone, strangers_are_refused, paths_lead_nowhere, bodies_that_are_no_session_are_refused,
-    what_is_too_large_is_refused, requests_that_break_off_are_refused, a_long_query_is_ended, twenty_at_once,
+    what_is_too_large_is_refused, requests_that_break_off_are_refused, a_body_that_trickles_is_refused,
+    a_long_query_is_ended, twenty_at_once,
 )
 
 
