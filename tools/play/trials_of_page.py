@@ -152,6 +152,22 @@ def refusals_are_marked(page, screenshots):
     equal(page.marked("#query-editor"), "x")
 
 
+def texts_are_no_markup(page, _):
+    """A text of a graph is shown as it stands, whatever it looks like to a page or to Graphviz."""
+    page.fresh()
+    text = '</text><script>document.title="changed"</script> \\N \\" &amp; \u0007'
+    element = {"id": 1, "properties": {"k": text}}
+    page.fill("CONSTRUCT (n)-/@p/->(m) MATCH (n)-/@p/->(m)", json.dumps(
+        {"gcore": 1, "nodes": [element], "paths": [{**element, "id": 2, "walk": [1]}]}))
+    page.run()
+    equal(page.driver.script("return [document.title, document.querySelectorAll('#answer script').length]"), ["gcore playground", 0])
+    drawn = "return Array.from(document.querySelectorAll('.picture text'), (it) => it.textContent)"
+    shown = 'k = "%s"' % text.replace("\u0007", "\\u0007")
+    equal(page.driver.script(drawn), ["2; %s…; walk 1" % shown[:39], "1", shown[:39] + "…"])
+    cells = "return Array.from(document.querySelectorAll('td:nth-last-child(2)'), (it) => it.textContent)"
+    equal(page.driver.script(cells), [shown, shown])
+
+
 def graphs_come_and_go(page, _):
     """Graphs are added, named and removed, up to eight."""
     page.fresh()
@@ -254,6 +270,6 @@ def the_tour_is_pictured(page, screenshots):
 
 TRIALS = (
     examples_have_their_answers, created_is_told_from_copied, elements_tell_what_they_are, paths_are_lit_one_by_one,
-    refusals_are_marked, graphs_come_and_go, the_text_is_kept, a_link_holds_the_session, a_second_page_is_apart,
+    refusals_are_marked, texts_are_no_markup, graphs_come_and_go, the_text_is_kept, a_link_holds_the_session, a_second_page_is_apart,
     keys_reach_everything, it_can_be_read_when_narrow, the_tour_is_pictured,
 )
