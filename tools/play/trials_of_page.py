@@ -230,7 +230,7 @@ def a_second_page_is_apart(page, _):
 def keys_reach_everything(page, _):
     """Ctrl-Enter runs, and Tab comes to every control and every element of the picture."""
     page.fresh()
-    page.fill("CONSTRUCT (n) MATCH (n:City)", read(PEOPLE))
+    page.fill("CONSTRUCT (n)-/@p/->(m) MATCH (n)-/@p/->(m)", read(PEOPLE))
     page.driver.script("document.querySelector('#query-editor textarea').focus()")
     page.driver.press(CONTROL, ENTER)
     page.driver.wait_for(RAN)
@@ -240,7 +240,8 @@ def keys_reach_everything(page, _):
         page.driver.press(TAB)
         here = "const it = document.activeElement; return it.id || it.getAttribute('aria-label') || it.textContent"
         seen.add(page.driver.script(here))
-    due = {"examples", "command", "run", "link", "g", "add a graph", "graph-name", "look", "graph", "query", "node-3"}
+    due = {"examples", "command", "run", "link", "g", "add a graph", "graph-name", "look", "graph", "query", "node-1", "edge-11"}
+    due |= {"path 21 :introduction; walk 1 11 2 12 4", "Text"}
     equal(due - seen, set(), "not reached by Tab")
 
 

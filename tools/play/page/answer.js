@@ -127,10 +127,17 @@ export function showGraph(place, graph, isAnswer) {
   place.append(scroll);
 }
 
+/** A paragraph of a sentence in which what stands between backticks is code. */
+function sentenceOf(text) {
+  const paragraph = made("p");
+  text.split("`").forEach((part, at) => paragraph.append(at % 2 === 0 ? part : made("code", part)));
+  return paragraph;
+}
+
 /** Shows what a refusal says. */
 export function showRefusal(place, refusal) {
   place.replaceChildren(made("code", refusal.line));
-  if (refusal.sentence) place.append(made("p", refusal.sentence));
+  if (refusal.sentence) place.append(sentenceOf(refusal.sentence));
   if (refusal.example) place.append(made("p", "The smallest example:"), made("pre", refusal.example));
   place.hidden = false;
 }
