@@ -13,6 +13,10 @@ PLAYGROUND = os.path.join(TOP, "tools", "playground")
 PATIENCE = 60
 
 
+class NotStarted(Exception):
+    """A playground that ended before it told its address; it has said itself why."""
+
+
 def children_of(number):
     """The numbers of the processes whose parent has this number, and that have not ended."""
     found = []
@@ -45,7 +49,7 @@ class Served:
         self.child = subprocess.Popen(words, stdout=subprocess.PIPE, env=surroundings, start_new_session=True)
         self.address = self.child.stdout.readline().decode().strip()
         if not self.address:
-            raise AssertionError("the playground did not start")
+            raise NotStarted("the playground did not start")
         self.port = int(self.address.rstrip("/").rsplit(":", 1)[1])
 
     def ask(self, method, path, body=None, **headers):
