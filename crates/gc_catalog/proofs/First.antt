@@ -1,10 +1,9 @@
 -- The first graphs of a catalog are a catalog.
-use Rattle.std.proofs.Common.{◌≡◌, ◌≤◌, ℕ, zero, suc, Bool, true, false, ◌||◌, List, [], ◌∷◌, length, take, refl, ap, ◌∙◌, nat_eq, arith}
+use Rattle.std.proofs.Common.{◌≡◌, ◌≤◌, ℕ, zero, suc, Bool, true, false, ◌||◌, List, [], ◌∷◌, length, take, Option, Some, None, refl, ap, ◌∙◌, arith}
 use Rattle.std.specs.List.{AllByRecursion, list_any}
-use Rattle.std.specs.Cmp.Lexicographic.{pointwise}
 use Rattle.gc_spec.specs.PropertyGraph.{PropertyGraph}
 use Rattle.gc_spec.specs.Coherence.{AreCoherent}
-use Rattle.gc_catalog.specs.NamedGraphs.{NamedGraphs, IsCatalog, AreNames, AllCoherent, AreBelow, first_graphs, has_name}
+use Rattle.gc_catalog.specs.NamedGraphs.{NamedGraphs, IsCatalog, AreNames, AllCoherent, AreBelow, first_graphs, is_name}
 
 as_many : {X Y : Type 0} (n : ℕ) (xs : List X) (ys : List Y) → length xs ≡ length ys → length (take n xs) ≡ length (take n ys)
 as_many zero xs ys h = refl
@@ -29,10 +28,11 @@ none_first p (suc n) (x ∷ xs) h =
     let parts = both_false (p x) (list_any p xs) h in
     ap (λ b. b || list_any p (take n xs)) parts.0 ∙ none_first p n xs parts.1
 
-names_first : (n : ℕ) (names : List (List ℕ)) → AreNames names → AreNames (take n names)
+names_first : (n : ℕ) (names : List (Option (List ℕ))) → AreNames names → AreNames (take n names)
 names_first zero names h = tt
 names_first (suc n) [] h = tt
-names_first (suc n) (name ∷ names) h = (none_first (λ other. pointwise nat_eq other name) n names h.0, names_first n names h.1)
+names_first (suc n) (None ∷ names) h = names_first n names h
+names_first (suc n) (Some name ∷ names) h = (none_first (is_name name) n names h.0, names_first n names h.1)
 
 coherent_first : (n : ℕ) (gs : List PropertyGraph) → AllCoherent gs → AllCoherent (take n gs)
 coherent_first zero gs h = tt

@@ -1,8 +1,8 @@
-ghost use Rattle.std.specs.Prelude.{◌≡◌, ◌≤◌, ℕ, IfOk, IfErr, OnOk, OnErr, length, slice_get, take, None};
+ghost use Rattle.std.specs.Prelude.{◌≡◌, ◌≤◌, ℕ, IfOk, IfErr, OnOk, OnErr, length, take, None};
 ghost use Rattle.std.specs.List.{AllByRecursion};
 ghost use Rattle.std.specs.Option.{option_copied};
 ghost use Rattle.gc_spec.specs.Coherence.{AreCoherent};
-ghost use Rattle.gc_catalog.specs.NamedGraphs.{NamedGraphs, IsCatalog, first_graphs, no_graphs, with_graph, number_of, AreBelow};
+ghost use Rattle.gc_catalog.specs.NamedGraphs.{NamedGraphs, IsCatalog, first_graphs, is_name, name_at, no_graphs, with_graph, with_local, number_of, AreBelow};
 ghost use Rattle.gc_catalog.specs.declared.catalog.AddRefusal.TheVariants.{Memory as OutOfMemory};
 
 use gc_base::{Memory, Name};
@@ -46,11 +46,11 @@ impl<T: Drop> From<AllocFailed<T>> for AddRefusal {
     }
 }
 
-/// The graphs of a session, each with a number and a name. All are coherent, and every identity in
+/// The graphs of a session by number, each with a name or without one. All are coherent, and every identity in
 /// them is below `next`.
 #[derive(Drop)]
 pub struct Catalog {
-    names: Vec<Name>,
+    names: Vec<Option<Name>>,
     graphs: GraphList,
     next: u64,
 }
@@ -97,7 +97,23 @@ impl Catalog {
         let number = self.graphs.len();
         self.names.reserve(1)?;
         self.graphs.push(g)?;
-        self.names.push(name)?;
+        self.names.push(Some(name))?;
+        Ok(number)
+    }
+
+    /// Adds a graph without a name, and gives its number. It has to agree with those that are there, and
+    /// its identities have to be below `next`. Where memory is wanting the catalog is as it was.
+    pub fn add_unnamed(&mut self, g: Graph) -> Result<u32, Memory>
+        requires coherent { AllByRecursion (λ h. AreCoherent h g) self.old.graphs }
+        requires below { AreBelow self.old.next g }
+        ensures number { IfOk result (λ number. number ≡ length self.old.graphs) }
+        ensures added { OnOk result (self.new ≡ with_local self.old g) }
+        ensures same { OnErr result (self.new ≡ self.old) }
+    {
+        let number = self.graphs.len();
+        self.names.reserve(1)?;
+        self.graphs.push(g)?;
+        self.names.push(None)?;
         Ok(number)
     }
 
@@ -112,12 +128,15 @@ impl Catalog {
         }
     }
 
-    /// The name of a graph, or `None` exactly where there is no graph of this number.
+    /// The name of a graph, or `None` exactly where there is no graph of this number, or it has no name.
     pub fn name_at(&self, i: u32) -> Option<&Name>
-        ensures name { option_copied result ≡ slice_get self.now.names i }
+        ensures name { option_copied result ≡ name_at self.now.names i }
         ensures valid { IsCatalog self.now }
     {
-        self.names.get(i as usize)
+        match self.names.get(i as usize) {
+            Some(Some(name)) => Some(name),
+            Some(None) | None => None,
+        }
     }
 
     /// All graphs, by number.
@@ -160,8 +179,18 @@ impl Catalog {
 }
 
 // The place of a name.
-fn place_of(names: &[Name], name: &Name) -> Option<usize>
+fn place_of(names: &[Option<Name>], name: &Name) -> Option<usize>
     ensures { result ≡ number_of names.now name.now }
 {
-    names.iter().position(|other| other == name)
+    names.iter().position(|other| is_name(other, name))
+}
+
+// Whether a graph's name is this one.
+fn is_name(other: &Option<Name>, name: &Name) -> bool
+    ensures { result ≡ is_name name.now other.now }
+{
+    match other {
+        Some(other) => other == name,
+        None => false,
+    }
 }

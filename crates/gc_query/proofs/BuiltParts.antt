@@ -11,12 +11,12 @@ use Rattle.gc_expr.specs.Views.{Names}
 use Rattle.gc_lower.specs.Blocks.{block_of}
 use Rattle.gc_lower.specs.Scopes.{Scope}
 use Rattle.gc_lower.proofs.TreeParts.{basic_term, query_parts, query_term}
-use Rattle.gc_query.specs.Built.{built, is_none, no_walks}
+use Rattle.gc_query.specs.Built.{built, no_walks}
 use Rattle.gc_query.proofs.QueryParts.{next_parts}
 
 module _ (s : Scope) (names : Names) where
   pub of_query : (q : Query) → built s (query_tree names q)
-      ≡ (is_none (row (map (head_tree names) (out-Query q).heads.items)) && (built s (term_tree names (out-Query q).first) && built s (row (map (next_term_tree names) (out-Query q).rest.items))))
+      ≡ (built s (row (map (head_tree names) (out-Query q).heads.items)) && (built s (term_tree names (out-Query q).first) && built s (row (map (next_term_tree names) (out-Query q).rest.items))))
   unfolding built
   of_query q = ap (built s) (query_parts names q)
 

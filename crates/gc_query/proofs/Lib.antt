@@ -1,8 +1,11 @@
 mod BasicsMade
 mod BuiltRests
+mod Heads
+mod OneOutcome
 mod Outcomes
 mod PlanRuns
 mod QueriesWhole
+mod Standings
 mod StepLaws
 pub mod AllOf
 pub mod BuiltParts

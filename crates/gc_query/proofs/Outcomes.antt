@@ -1,9 +1,10 @@
 -- What a part comes to, as what the whole does.
-use Rattle.std.proofs.Common.{◌≡◌, Result, Ok, Err, sym, subst}
+use Rattle.std.proofs.Common.{◌≡◌, ℕ, Result, Ok, Err, sym, subst}
 use Rattle.std.specs.Prelude.{IfOk}
 use Rattle.std.specs.Result.{IsErr, IsErrAnd}
-use Rattle.gc_query.specs.Answered.{IsAnswered}
-use Rattle.gc_query.specs.Standings.{Made}
+use Rattle.gc_catalog.specs.NamedGraphs.{NamedGraphs}
+use Rattle.gc_query.specs.Answered.{AreStood, IsAnswered, IsRefused}
+use Rattle.gc_query.specs.Standings.{Standing, Made}
 use Rattle.gc_query.specs.declared.fault.Fault.{Fault}
 use Rattle.gc_query.specs.declared.fault.QueryRefusal.{QueryRefusal}
 use Rattle.gc_query.specs.declared.fault.QueryRefusal.TheVariants as refusal
@@ -12,19 +13,29 @@ pub if_ok : {A E : Type 0} (P Q : A → Type 0) → ((x : A) → P x → Q x) �
 if_ok P Q f (Ok x) h = f x h
 if_ok P Q f (Err e) h = tt
 
-module _ (IsDue IsPart : Result Made Fault → Type 0) where
-  -- what a part comes to is what the whole does
-  pub passes_on : (result : Result Made QueryRefusal) → ((outcome : Result Made Fault) → IsPart outcome → IsDue outcome) → IsAnswered IsPart result → IsAnswered IsDue result
-  passes_on (Ok made) part h = part (Ok made) h
-  passes_on (Err (refusal.Fault fault)) part h = part (Err fault) h
-  passes_on (Err refusal.Memory) part h = tt
+-- the refusal of a part is that of the whole
+pub told : (IsDue IsPart : Fault → Type 0) (r : QueryRefusal) → ((fault : Fault) → IsPart fault → IsDue fault) → IsRefused IsPart r → IsRefused IsDue r
+told IsDue IsPart (refusal.Fault fault) part h = part fault h
+told IsDue IsPart refusal.Memory part h = tt
 
-  told : (r : QueryRefusal) → ((fault : Fault) → IsPart (Err fault) → IsDue (Err fault)) → IsAnswered IsPart (Err r) → IsAnswered IsDue (Err r)
-  told (refusal.Fault fault) part h = part fault h
-  told refusal.Memory part h = tt
+-- what a part comes to is what the whole does
+pub passes_on : (IsDue IsPart : Result Made Fault → Type 0) (result : Result Made QueryRefusal) → ((outcome : Result Made Fault) → IsPart outcome → IsDue outcome)
+    → IsAnswered IsPart result → IsAnswered IsDue result
+passes_on IsDue IsPart (Ok made) part h = part (Ok made) h
+passes_on IsDue IsPart (Err r) part h = told (λ fault. IsDue (Err fault)) (λ fault. IsPart (Err fault)) r (λ fault. part (Err fault)) h
 
-  -- the refusal of a part is that of the whole
-  pub refused : (result : Result Made QueryRefusal) (r : QueryRefusal) → IsErr result → IsErrAnd result (λ other. other ≡ r)
-      → ((fault : Fault) → IsPart (Err fault) → IsDue (Err fault)) → IsAnswered IsPart (Err r) → IsAnswered IsDue result
-  refused (Ok made) r err same part h = absurd same
-  refused (Err other) r err same part h = subst (λ x. IsAnswered IsDue (Err x)) (sym same) (told r part h)
+pub stands_on : (IsDue IsPart : Result Standing Fault → Type 0) (after : NamedGraphs) (result : Result ℕ QueryRefusal) → ((under : Result Standing Fault) → IsPart under → IsDue under)
+    → AreStood IsPart after result → AreStood IsDue after result
+stands_on IsDue IsPart after (Ok next) part h = part _ h
+stands_on IsDue IsPart after (Err r) part h = told (λ fault. IsDue (Err fault)) (λ fault. IsPart (Err fault)) r (λ fault. part (Err fault)) h
+
+module _ (IsPart : Fault → Type 0) (r : QueryRefusal) (h : IsRefused IsPart r) where
+  pub refused : (IsDue : Result Made Fault → Type 0) (result : Result Made QueryRefusal) → IsErr result → IsErrAnd result (λ other. other ≡ r)
+      → ((fault : Fault) → IsPart fault → IsDue (Err fault)) → IsAnswered IsDue result
+  refused IsDue (Ok made) err same part = absurd same
+  refused IsDue (Err other) err same part = subst (λ x. IsAnswered IsDue (Err x)) (sym same) (told (λ fault. IsDue (Err fault)) IsPart r part h)
+
+  pub not_stood : (IsDue : Result Standing Fault → Type 0) (after : NamedGraphs) (result : Result ℕ QueryRefusal) → IsErr result → IsErrAnd result (λ other. other ≡ r)
+      → ((fault : Fault) → IsPart fault → IsDue (Err fault)) → AreStood IsDue after result
+  not_stood IsDue after (Ok next) err same part = absurd same
+  not_stood IsDue after (Err other) err same part = subst (λ x. AreStood IsDue after (Err x)) (sym same) (told (λ fault. IsDue (Err fault)) IsPart r part h)

@@ -1,4 +1,4 @@
--- What a query without heads comes to, by its terms.
+-- What a query comes to, by its heads and its terms.
 use Rattle.std.proofs.Common.{◌≡◌, ℕ, ◌+◌, true, Bool, List, map, drop, Some, Result, Ok, Err, Box, Global, sym, ap, ◌∙◌, subst, slice_get, rules}
 use Rattle.gc_ast.specs.declared.construct.Change.{the_lemmas}
 use Rattle.gc_ast.specs.declared.construct.Change.TheViews as term
@@ -12,28 +12,31 @@ use Rattle.gc_ast.specs.Trees as tree
 use Rattle.gc_expr.specs.Views.{Names}
 use Rattle.gc_lower.specs.Scopes.{Scope}
 use Rattle.gc_lower.proofs.TreeParts.{basic_term, query_parts, query_term}
-use Rattle.gc_query.specs.Built.{built, is_none}
 use Rattle.gc_query.specs.Basics.{DenotesBasic}
-use Rattle.gc_query.specs.Queries.{Combines, Denotes, DenotesTerm, Joined, Then}
+use Rattle.gc_query.specs.Queries.{Combines, Denotes, DenotesTerm, Heads, Joined, Terms, Then}
 use Rattle.gc_query.specs.Standings.{Standing, Made}
 use Rattle.gc_query.specs.declared.fault.Fault.{Fault}
 use Rattle.gc_spec.specs.PropertyGraph.{PropertyGraph}
-use Rattle.gc_query.proofs.BuiltRests.{next_row, none_is}
+use Rattle.gc_query.proofs.BuiltRests.{next_row}
 use Rattle.gc_query.proofs.Joining.{both_fail, one_more, right_fails}
 
 module _ (s : Scope) where
-  plain : (at : Standing) (heads : Tree (RowOf AHead)) (first : Tree ATerm) (rest : Tree (RowOf ANextTerm)) → is_none heads ≡ true → (left outcome : Result Made Fault)
-      → DenotesTerm s at first left → Then left (λ made. Joined s at.graphs made rest) outcome → Denotes s at (tree.Query heads first rest) outcome
+  -- terms, by the first and those behind it
+  pub terms_come : (at : Standing) (first : Tree ATerm) (rest : Tree (RowOf ANextTerm)) (left outcome : Result Made Fault) → DenotesTerm s at first left
+      → Then left (λ made. Joined s at.graphs made rest) outcome → Terms s at first rest outcome
   unfolding Denotes
-  plain at tree.none first rest none left outcome d t = (left, d, t)
-  plain at (tree.more head heads) first rest none left outcome d t = cc
+  terms_come at first rest left outcome d t = (left, d, t)
+
+  whole : (at : Standing) (heads : Tree (RowOf AHead)) (first : Tree ATerm) (rest : Tree (RowOf ANextTerm)) (under : Result Standing Fault) (outcome : Result Made Fault)
+      → Heads s at heads under → Then under (λ now. Terms s now first rest) outcome → Denotes s at (tree.Query heads first rest) outcome
+  unfolding Denotes
+  whole at heads first rest under outcome h t = (under, h, t)
 
   module _ (names : Names) where
-    -- a query by its first term and those behind it
-    pub query_comes : (at : Standing) (q : Query) → built s (query_tree names q) ≡ true → (left outcome : Result Made Fault) → DenotesTerm s at (term_tree names (out-Query q).first) left
-        → Then left (λ made. Joined s at.graphs made (row (map (next_term_tree names) (out-Query q).rest.items))) outcome → Denotes s at (query_tree names q) outcome
-    query_comes at q is left outcome d t =
-        subst (λ x. Denotes s at x outcome) (sym (query_parts names q)) (plain at (row (map (head_tree names) (out-Query q).heads.items)) _ _ (none_is s names q is) left outcome d t)
+    -- a query, by its heads and its terms
+    pub query_comes : (at : Standing) (q : Query) (under : Result Standing Fault) (outcome : Result Made Fault) → Heads s at (row (map (head_tree names) (out-Query q).heads.items)) under
+        → Then under (λ now. Terms s now (term_tree names (out-Query q).first) (row (map (next_term_tree names) (out-Query q).rest.items))) outcome → Denotes s at (query_tree names q) outcome
+    query_comes at q under outcome h t = subst (λ x. Denotes s at x outcome) (sym (query_parts names q)) (whole at _ _ _ under outcome h t)
 
     -- a basic query and a query in parentheses are what is inside
     pub basic_comes : (at : Standing) (b : Box Basic Global) (outcome : Result Made Fault) → DenotesBasic s at (basic_tree names b.value) outcome → DenotesTerm s at (term_tree names (term.Basic b)) outcome

@@ -6,7 +6,7 @@ use Rattle.gc_alg.specs.Trees.{ABlock, BlockOf, PartOf, ConjunctOf, ExistsOf}
 use Rattle.gc_alg.specs.declared.atom.AtomWhat.{AtomWhat}
 use Rattle.gc_alg.specs.declared.atom.AtomWhat.TheVariants as atom
 use Rattle.gc_ast.specs.Trees as ast
-use Rattle.gc_ast.specs.Trees.{Tree, AStatement, View, Ask, Query, NextTerm, BasicTerm, GraphTerm, QueryTerm}
+use Rattle.gc_ast.specs.Trees.{Tree, AStatement, View, Ask, Query, NextTerm, BasicTerm, GraphTerm, QueryTerm, PathHead, GraphHead}
 use Rattle.gc_lower.specs.Blocks.{block_of}
 use Rattle.gc_lower.specs.Namings.{QueryFile, scope_in}
 use Rattle.gc_lower.specs.Scopes.{Scope}
@@ -30,16 +30,13 @@ no_walks (ExistsOf outer block tree) = no_walks block
 no_walks alg.none = true
 no_walks (alg.more t ts) = no_walks t && no_walks ts
 
--- whether a row has no tree
-abbrev pub is_none : {k : ast.Kind} → Tree (ast.RowOf k) → Bool
-is_none ast.none = true
-is_none (ast.more t ts) = false
-
--- what looks for a walk is not built, nor are heads and graph views
+-- what looks for a walk is not built, nor are heads that declare a view
 unfoldable pub built : {k : ast.Kind} → Scope → Tree k → Bool
 built s (Ask query) = built s query
-built s (View name query) = false
-built s (Query heads first rest) = is_none heads && (built s first && built s rest)
+built s (View name query) = built s query
+built s (Query heads first rest) = built s heads && (built s first && built s rest)
+built s (PathHead name chains filter cost) = false
+built s (GraphHead name query) = built s query
 built s (BasicTerm basic) = no_walks (block_of s [] basic)
 built s (GraphTerm g) = true
 built s (QueryTerm query) = built s query

@@ -1,5 +1,5 @@
 -- What a query comes to: a graph, or a fault.
-use Rattle.std.specs.Prelude.{◌≡◌, ℕ, Bool, true, false, ◌&&◌, nat_le, List, [], ◌∷◌, ◌++◌, map, Result, Ok, Err, slice_get}
+use Rattle.std.specs.Prelude.{◌≡◌, ℕ, Bool, true, false, ◌&&◌, nat_le, List, [], ◌∷◌, ◌++◌, map, Result, Ok, Err, slice_get, if◌then◌else◌}
 use Rattle.std.specs.Option.{unwrap_or}
 use Rattle.gc_ast.specs.Trees.{Tree, AQuery, ATerm, AHead, ANextTerm, AStatement, RowOf, Query, NextTerm, BasicTerm, GraphTerm, QueryTerm, PathHead, GraphHead, none, more}
 use Rattle.gc_ast.specs.declared.query.SetOp.{SetOp}
@@ -20,8 +20,8 @@ use Rattle.gc_query.specs.declared.fault.Fault.TheVariants.{NoGraph}
 -- Take two graphs g and h, where the next identity is 5. `CONSTRUCT (x) MATCH (n) ON g UNION h`, where g has one node, comes to the
 -- graph of a new node 5 and of all that h has; the next identity is then 6.
 
--- a fault is the outcome of all that it stands in; after a graph comes what is next
-abbrev pub Then : {A : Type 0} → Result A Fault → (A → Result Made Fault → Type 0) → Result Made Fault → Type 0
+-- a fault is the outcome of all that it stands in; after anything else comes what is next
+abbrev pub Then : {A B : Type 0} → Result A Fault → (A → Result B Fault → Type 0) → Result B Fault → Type 0
 Then (Err fault) next outcome = outcome ≡ Err fault
 Then (Ok x) next outcome = next x outcome
 
@@ -60,30 +60,29 @@ fits at made = agrees_with at.graphs made.graph && nat_le (first_free made.graph
 abbrev pub with_made : Standing → Made → Standing
 with_made at made = record { graphs = at.graphs ++ made.graph ∷ []; next = made.next }
 
--- a graph stands for what is next, where it fits
-abbrev pub StandsIf : Bool → (Result Made Fault → Type 0) → Result Made Fault → Type 0
-StandsIf true next outcome = next outcome
-StandsIf false next outcome = outcome ≡ Err NoGraph
-
-abbrev pub Stands : Standing → (Standing → Result Made Fault → Type 0) → Made → Result Made Fault → Type 0
-Stands at next made outcome = StandsIf (fits at made) (next (with_made at made)) outcome
+-- what stands with a graph more, where it fits
+abbrev pub stood : Standing → Made → Result Standing Fault
+stood at made = if fits at made then Ok (with_made at made) else Err NoGraph
 
 -- the same graphs with a later next identity
 abbrev pub from_next : Standing → (next : ℕ) → Standing
 from_next at next = record { graphs = at.graphs; next = next }
 
 unfoldable mutual
-  -- what a query comes to: its heads in the order of the text, and under them its terms from the left
+  -- what a query comes to: its heads in the order of the text, and then its terms over what stands under them
   pub Denotes : Scope → Standing → Tree AQuery → Result Made Fault → Type 0
-  Denotes s at (Query heads first rest) =
-      Headed s at heads (λ under outcome. (left : Result Made Fault) × DenotesTerm s under first left × Then left (λ made. Joined s under.graphs made rest) outcome)
+  Denotes s at (Query heads first rest) = λ outcome. (under : Result Standing Fault) × Heads s at heads under × Then under (λ now. Terms s now first rest) outcome
 
-  -- what comes under heads: each named graph stands for all that follows; a view is evaluated where it is used
-  pub Headed : Scope → Standing → Tree (RowOf AHead) → (Standing → Result Made Fault → Type 0) → Result Made Fault → Type 0
-  Headed s at none under = λ outcome. under at outcome
-  Headed s at (more (PathHead name chains filter cost) heads) under = λ outcome. Headed s at heads under outcome
-  Headed s at (more (GraphHead name query) heads) under =
-      λ outcome. (local : Result Made Fault) × Denotes s at query local × Then local (Stands at (λ more_stand. Headed s more_stand heads under)) outcome
+  -- what stands under heads: the graph of each is one more for all that follow; a view is evaluated where it is used
+  pub Heads : Scope → Standing → Tree (RowOf AHead) → Result Standing Fault → Type 0
+  Heads s at none = λ under. under ≡ Ok at
+  Heads s at (more (PathHead name chains filter cost) heads) = λ under. Heads s at heads under
+  Heads s at (more (GraphHead name query) heads) =
+      λ under. (local : Result Made Fault) × Denotes s at query local × Then local (λ made stands. Then (stood at made) (λ now. Heads s now heads) stands) under
+
+  -- what terms come to, from the left
+  pub Terms : Scope → Standing → Tree ATerm → Tree (RowOf ANextTerm) → Result Made Fault → Type 0
+  Terms s at first rest = λ outcome. (left : Result Made Fault) × DenotesTerm s at first left × Then left (λ made. Joined s at.graphs made rest) outcome
 
   -- a term: a CONSTRUCT with its MATCH, a graph by name, or a query in parentheses
   pub DenotesTerm : Scope → Standing → Tree ATerm → Result Made Fault → Type 0

@@ -1,7 +1,8 @@
 -- What one statement does to the graphs that stand.
-use Rattle.std.specs.Prelude.{◌≡◌, ℕ, List, slice_get, Option, Some, None, Result, Ok, Err}
+use Rattle.std.specs.Prelude.{◌≡◌, ℕ, ◌&&◌, not, if◌then◌else◌, is_some, List, slice_get, Option, Some, None, Result, Ok, Err}
 use Rattle.gc_ast.specs.Trees.{Tree, AStatement, View, Ask}
-use Rattle.gc_catalog.specs.NamedGraphs.{NamedGraphs, with_graph}
+use Rattle.gc_base.specs.Words.{is_word}
+use Rattle.gc_catalog.specs.NamedGraphs.{NamedGraphs, number_of, with_graph, with_local}
 use Rattle.gc_lower.specs.Scopes.{Scope}
 use Rattle.gc_query.specs.Sessions.{Answer, Answers, Prints, Names, Fails}
 use Rattle.gc_query.specs.Standings.{Standing, Made}
@@ -17,9 +18,18 @@ standing c = record { graphs = c.graphs; next = c.next }
 abbrev pub with_next : NamedGraphs → (next : ℕ) → NamedGraphs
 with_next c next = record c { next = next }
 
--- the catalog behind a graph view
+-- a name, where it is a word that no graph has
+abbrev pub free_word : List (Option (List ℕ)) → (name : List ℕ) → Option (List ℕ)
+free_word names name = if is_word name && not (is_some (number_of names name)) then Some name else None
+
+-- with a graph under a name, if there is one for it
+abbrev pub with_named : NamedGraphs → Option (List ℕ) → PropertyGraph → NamedGraphs
+with_named c None g = with_local c g
+with_named c (Some name) g = with_graph c name g
+
+-- the catalog behind a graph view: its graph stands under its name; the sort rules see to it that this is free
 abbrev pub with_view : NamedGraphs → Tree AStatement → Made → NamedGraphs
-with_view c (View name query) made = with_graph (with_next c made.next) name.name made.graph
+with_view c (View name query) made = with_named (with_next c made.next) (free_word c.names name.name) made.graph
 with_view c (Ask query) made = c
 
 -- a statement was answered: with the graph that it prints; with none, where it names one; or it was refused, and the catalog is as it was

@@ -5,7 +5,7 @@ ghost use Rattle.gc_query.specs.Queries.{agrees_with};
 ghost use Rattle.gc_spec.specs.Coherence.{EdgeShape, NodeShape, PathShape};
 
 use gc_base::{Duplicate, Memory, Steps};
-use gc_ppg::{Coherence, EdgeInfo, Graph, NodeInfo, PathInfo, Shape};
+use gc_ppg::{Coherence, EdgeInfo, Graph, GraphList, NodeInfo, PathInfo, Shape};
 use std::alloc::Global;
 use std::sync::ledger::Ledger;
 
@@ -21,6 +21,22 @@ pub(crate) fn agree<L: Ledger>(
     let mut seen = Coherence::new(alloc);
     seen.add(first)?;
     all_agree(&seen, second, steps)
+}
+
+/// Whether each identity of a graph that some others have stands for the same in all of them.
+pub(crate) fn agree_with_all<L: Ledger>(
+    alloc: Global,
+    graphs: &GraphList,
+    graph: &Graph,
+    steps: &mut Steps<L>,
+) -> Result<bool, Memory>
+    ensures { IfOk result (λ same. same ≡ agrees_with graphs.now graph.now) }
+{
+    let mut seen = Coherence::new(alloc);
+    for other in graphs.as_slice() {
+        seen.add(other)?;
+    }
+    all_agree(&seen, graph, steps)
 }
 
 // Whether each identity of a graph stands for what it does in the graphs that were seen.

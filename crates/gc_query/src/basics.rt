@@ -4,7 +4,7 @@ ghost use Rattle.gc_alg.specs.Views.{block_tree};
 ghost use Rattle.gc_ast.specs.QueryViews.{basic_tree};
 ghost use Rattle.gc_exec.specs.Runs.{setting};
 ghost use Rattle.gc_lower.specs.Blocks.{block_of};
-ghost use Rattle.gc_query.specs.Answered.{IsAnswered, Rises, names_in, outcome_of, scope_in, standing_in};
+ghost use Rattle.gc_query.specs.Answered.{IsAnswered, Rises, names_in, outcome_of, scope_in};
 ghost use Rattle.gc_query.specs.Basics.{DenotesBasic};
 ghost use Rattle.gc_query.specs.Built.{no_walks};
 
@@ -20,13 +20,16 @@ use gc_build_reading::recipe;
 use gc_exec::run;
 use gc_lower::lower_match;
 use gc_plan::{plan, the_plan_of_a_block_means_it};
+use gc_ppg::GraphList;
 use gc_rows::{Row, Table};
+use std::alloc::Global;
 use std::sync::ledger::Ledger;
 
 /// What a CONSTRUCT comes to on the table of its MATCH, which has to look for no walk, where the next
 /// identity is `next`.
 pub(crate) fn basic_made<L: Ledger>(
     session: &Session<'_>,
+    graphs: &GraphList,
     basic: &Basic,
     next: u64,
     steps: &mut Steps<L>,
@@ -34,34 +37,35 @@ pub(crate) fn basic_made<L: Ledger>(
     requires walks { no_walks (block_of (scope_in session.now) [] (basic_tree (names_in session.now) basic.now)) ≡ true }
     requires most { next ≤ 9007199254740992 }
     ensures rises { Rises next result }
-    ensures due { IsAnswered (DenotesBasic (scope_in session.now) (standing_in session.now next) (basic_tree (names_in session.now) basic.now)) result }
+    ensures due { IsAnswered (DenotesBasic (scope_in session.now) (record { graphs = graphs.now; next = next }) (basic_tree (names_in session.now) basic.now)) result }
 {
     let lowered = lower_match(session.alloc, session.checked, basic)?;
-    let table = table_of(session, &lowered.block, steps)?;
+    let table = table_of(session.alloc, graphs, &lowered.block, steps)?;
     let bound = table.schema().as_slice();
     let recipe = recipe(session.alloc, session.checked, basic, bound)?;
     let setting = Setting {
         alloc: session.alloc,
         table: &table,
         reads: &lowered.block.reads,
-        graphs: session.graphs,
+        graphs,
     };
     made_of(construct(&setting, &recipe, next, steps), basic.token)
 }
 
 // The table of a block.
 fn table_of<L: Ledger>(
-    session: &Session<'_>,
+    alloc: Global,
+    graphs: &GraphList,
     block: &Block,
     steps: &mut Steps<L>,
 ) -> Result<Table, Memory>
     requires { no_walks (block_tree block.now) ≡ true }
-    ensures { IfOk result (IsTableOfBlock (setting session.now.graphs.now (block_tree block.now) [])) }
+    ensures { IfOk result (IsTableOfBlock (setting graphs.now (block_tree block.now) [])) }
 {
     the_plan_of_a_block_means_it();
-    let plan = plan(session.alloc, block)?;
-    let given = Row::empty(session.alloc);
-    run(session.alloc, &plan, block, session.graphs, &given, steps)
+    let plan = plan(alloc, block)?;
+    let given = Row::empty(alloc);
+    run(alloc, &plan, block, graphs, &given, steps)
 }
 
 // What a CONSTRUCT at a token comes to, as the outcome of a query.

@@ -1,20 +1,19 @@
 ghost use Rattle.std.specs.Prelude.{◌≡◌, [], map, IfOk};
 ghost use Rattle.std.specs.List.{list_all};
-ghost use Rattle.gc_ast.specs.QueryViews.{basic_tree, next_term_tree, query_tree, statement_tree, term_tree};
+ghost use Rattle.gc_ast.specs.QueryViews.{basic_tree, head_tree, next_term_tree, query_tree, statement_tree, term_tree};
 ghost use Rattle.gc_ast.specs.Trees.{row};
 ghost use Rattle.gc_lower.specs.Namings.{file_of, scope_of};
 ghost use Rattle.gc_lower.specs.Blocks.{block_of};
 ghost use Rattle.gc_query.specs.Built.{built, is_built, no_walks};
 
 use crate::blocks::no_walks;
-use gc_ast::{Basic, NextTerm, Query, Statement, Term};
+use gc_ast::{Basic, Head, NextTerm, Query, Statement, Term};
 use gc_base::Memory;
 use gc_lower::lower_match;
 use gc_sorts::Checked;
 use std::alloc::Global;
 
-/// Whether all of a query file is built: no statement of it looks for a walk, names a graph for later
-/// statements or has heads.
+/// Whether all of a query file is built: no statement of it looks for a walk or declares a view of paths.
 pub fn is_built(alloc: Global, checked: &Checked) -> Result<bool, Memory>
     ensures { IfOk result (λ b. b ≡ is_built (file_of checked.now)) }
 {
@@ -36,7 +35,7 @@ fn statement_is_built(
 {
     match statement {
         Statement::Ask(query) => query_is_built(query, alloc, checked),
-        Statement::View { name: _, query: _ } => Ok(false),
+        Statement::View { name: _, query } => query_is_built(query, alloc, checked),
     }
 }
 
@@ -45,13 +44,37 @@ fn statement_is_built(
 fn query_is_built(query: &Query, alloc: Global, checked: &Checked) -> Result<bool, Memory>
     ensures { IfOk result (λ b. b ≡ built (scope_of checked.now 0) (query_tree checked.now.file.names query.now)) }
 {
-    if !query.heads.is_empty() {
+    if !heads_are_built(&query.heads, alloc, checked)? {
         return Ok(false);
     }
     if !term_is_built(&query.first, alloc, checked)? {
         return Ok(false);
     }
     rest_is_built(&query.rest, alloc, checked)
+}
+
+#[tactic(auto, unfolding(crate::specs::Built::built))]
+#[cycle(built)]
+fn heads_are_built(heads: &[Head], alloc: Global, checked: &Checked) -> Result<bool, Memory>
+    ensures { IfOk result (λ b. b ≡ built (scope_of checked.now 0) (row (map (head_tree checked.now.file.names) heads.now))) }
+{
+    for head in heads {
+        if !head_is_built(head, alloc, checked)? {
+            return Ok(false);
+        }
+    }
+    Ok(true)
+}
+
+#[tactic(auto, unfolding(crate::specs::Built::built))]
+#[cycle(built)]
+fn head_is_built(head: &Head, alloc: Global, checked: &Checked) -> Result<bool, Memory>
+    ensures { IfOk result (λ b. b ≡ built (scope_of checked.now 0) (head_tree checked.now.file.names head.now)) }
+{
+    match head {
+        Head::Graph { name: _, query } => query_is_built(query, alloc, checked),
+        Head::Path { .. } => Ok(false),
+    }
 }
 
 #[tactic(auto, unfolding(crate::specs::Built::built))]

@@ -9,11 +9,15 @@ mod blocks;
 mod built;
 mod combining;
 mod fault;
+mod graph_views;
+mod laws;
 mod made;
 mod queries;
 mod session;
+mod standing;
 mod steps;
 
 pub use built::is_built;
 pub use fault::{Fault, QueryRefusal};
+pub use laws::a_statement_comes_to_one_answer;
 pub use steps::step;

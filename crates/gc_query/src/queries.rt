@@ -1,9 +1,9 @@
 ghost use Rattle.std.specs.Prelude.{◌≡◌, ◌≤◌, [], map, true, IfOk, Ok};
-ghost use Rattle.gc_ast.specs.QueryViews.{next_term_tree, query_tree, term_tree};
-ghost use Rattle.gc_ast.specs.Trees.{row};
-ghost use Rattle.gc_query.specs.Answered.{IsAnswered, Rises, names_in, scope_in, standing_in};
+ghost use Rattle.gc_ast.specs.QueryViews.{head_tree, next_term_tree, query_tree, term_tree};
+ghost use Rattle.gc_ast.specs.Trees.{more, none, row};
+ghost use Rattle.gc_query.specs.Answered.{AreStood, IsAnswered, IsLonger, Rises, RisesOver, names_in, scope_in, standing_at};
 ghost use Rattle.gc_query.specs.Built.{built};
-ghost use Rattle.gc_query.specs.Queries.{Denotes, DenotesTerm, Joined, graph_of_number, named, no_elements};
+ghost use Rattle.gc_query.specs.Queries.{Denotes, DenotesTerm, Heads, Joined, graph_of_number, named, no_elements};
 ghost use Rattle.gc_lower.specs.Scopes.{number_at};
 
 use crate::basics::basic_made;
@@ -11,28 +11,110 @@ use crate::combining::combined;
 use crate::fault::QueryRefusal;
 use crate::made::Made;
 use crate::session::Session;
-use gc_ast::{NextTerm, Query, Term};
+use crate::standing::stand;
+use gc_ast::{Head, NextTerm, Query, Term};
 use gc_base::{Duplicate, Memory, Steps};
-use gc_ppg::{Graph, GraphBuilder};
+use gc_catalog::Catalog;
+use gc_ppg::{Graph, GraphBuilder, GraphList};
 use std::alloc::Global;
 use std::sync::ledger::Ledger;
 
-/// What a query comes to, where the next identity is `next`: its terms, combined from the left.
+/// What a query comes to over the graphs of a catalog, where the next identity is `next`. The graphs that its
+/// heads name end with it: the catalog is as before.
 #[tactic(auto, unfolding(crate::specs::Queries::Denotes, crate::specs::Built::built))]
 #[cycle(made)]
 pub(crate) fn query_made<L: Ledger>(
     query: &Query,
     session: &Session<'_>,
+    catalog: &mut Catalog,
     next: u64,
     steps: &mut Steps<L>,
 ) -> Result<Made, QueryRefusal>
     requires built { built (scope_in session.now) (query_tree (names_in session.now) query.now) ≡ true }
+    requires later { catalog.old.next ≤ next }
     requires most { next ≤ 9007199254740992 }
     ensures rises { Rises next result }
-    ensures due { IsAnswered (Denotes (scope_in session.now) (standing_in session.now next) (query_tree (names_in session.now) query.now)) result }
+    ensures due { IsAnswered (Denotes (scope_in session.now) (standing_at catalog.old next) (query_tree (names_in session.now) query.now)) result }
+    ensures kept { catalog.new ≡ catalog.old }
 {
-    let first = term_made(&query.first, session, next, steps)?;
-    joined(&query.rest, session, first, steps)
+    let graphs = catalog.graphs().len();
+    let free = catalog.next();
+    let result = query_under(query, session, catalog, next, steps);
+    catalog.back_to(graphs, free);
+    result
+}
+
+// What a query comes to; what its heads name is left in the catalog.
+#[tactic(auto, unfolding(crate::specs::Queries::Denotes, crate::specs::Built::built))]
+#[cycle(made)]
+fn query_under<L: Ledger>(
+    query: &Query,
+    session: &Session<'_>,
+    catalog: &mut Catalog,
+    next: u64,
+    steps: &mut Steps<L>,
+) -> Result<Made, QueryRefusal>
+    requires built { built (scope_in session.now) (query_tree (names_in session.now) query.now) ≡ true }
+    requires later { catalog.old.next ≤ next }
+    requires most { next ≤ 9007199254740992 }
+    ensures rises { Rises next result }
+    ensures due { IsAnswered (Denotes (scope_in session.now) (standing_at catalog.old next) (query_tree (names_in session.now) query.now)) result }
+    ensures longer { IsLonger catalog.old catalog.new }
+{
+    let free = heads_stood(&query.heads, session, catalog, next, steps)?;
+    let first = term_made(&query.first, session, catalog, free, steps)?;
+    joined(&query.rest, session, catalog, first, steps)
+}
+
+// Puts the graphs that heads name behind those that stand.
+#[tactic(auto, unfolding(crate::specs::Queries::Denotes, crate::specs::Built::built))]
+#[cycle(made)]
+fn heads_stood<L: Ledger>(
+    heads: &[Head],
+    session: &Session<'_>,
+    catalog: &mut Catalog,
+    next: u64,
+    steps: &mut Steps<L>,
+) -> Result<u64, QueryRefusal>
+    requires built { built (scope_in session.now) (row (map (head_tree (names_in session.now)) heads.now)) ≡ true }
+    requires later { catalog.old.next ≤ next }
+    requires most { next ≤ 9007199254740992 }
+    ensures rises { RisesOver next catalog.new result }
+    ensures due { AreStood (Heads (scope_in session.now) (standing_at catalog.old next) (row (map (head_tree (names_in session.now)) heads.now))) catalog.new result }
+    ensures longer { IsLonger catalog.old catalog.new }
+{
+    let mut free = next;
+    for head in heads {
+        free = head_stood(head, session, catalog, free, steps)?;
+    }
+    Ok(free)
+}
+
+// Puts the graph that a head names behind those that stand.
+#[tactic(auto, unfolding(crate::specs::Queries::Denotes, crate::specs::Built::built))]
+#[cycle(made)]
+fn head_stood<L: Ledger>(
+    head: &Head,
+    session: &Session<'_>,
+    catalog: &mut Catalog,
+    next: u64,
+    steps: &mut Steps<L>,
+) -> Result<u64, QueryRefusal>
+    requires built { built (scope_in session.now) (head_tree (names_in session.now) head.now) ≡ true }
+    requires later { catalog.old.next ≤ next }
+    requires most { next ≤ 9007199254740992 }
+    ensures rises { RisesOver next catalog.new result }
+    ensures due { AreStood (Heads (scope_in session.now) (standing_at catalog.old next) (more (head_tree (names_in session.now) head.now) none)) catalog.new result }
+    ensures longer { IsLonger catalog.old catalog.new }
+{
+    match head {
+        Head::Graph { name: _, query } => {
+            let made = query_made(query, session, catalog, next, steps)?;
+            stand(session.alloc, catalog, made, steps)
+        }
+        // No head that declares a view is built.
+        Head::Path { .. } => unreachable!(),
+    }
 }
 
 // A graph with later terms.
@@ -41,17 +123,20 @@ pub(crate) fn query_made<L: Ledger>(
 fn joined<L: Ledger>(
     rest: &[NextTerm],
     session: &Session<'_>,
+    catalog: &mut Catalog,
     first: Made,
     steps: &mut Steps<L>,
 ) -> Result<Made, QueryRefusal>
     requires built { built (scope_in session.now) (row (map (next_term_tree (names_in session.now)) rest.now)) ≡ true }
+    requires later { catalog.old.next ≤ first.next }
     requires most { first.next ≤ 9007199254740992 }
     ensures rises { Rises first.next result }
-    ensures due { IsAnswered (Joined (scope_in session.now) session.now.graphs.now first (row (map (next_term_tree (names_in session.now)) rest.now))) result }
+    ensures due { IsAnswered (Joined (scope_in session.now) catalog.old.graphs first (row (map (next_term_tree (names_in session.now)) rest.now))) result }
+    ensures kept { catalog.new ≡ catalog.old }
 {
     let mut left = first;
     for later in rest {
-        let right = term_made(&later.term, session, left.next, steps)?;
+        let right = term_made(&later.term, session, catalog, left.next, steps)?;
         left = combined(session.alloc, later.op, &left.graph, right, steps)?;
     }
     Ok(left)
@@ -63,39 +148,47 @@ fn joined<L: Ledger>(
 fn term_made<L: Ledger>(
     term: &Term,
     session: &Session<'_>,
+    catalog: &mut Catalog,
     next: u64,
     steps: &mut Steps<L>,
 ) -> Result<Made, QueryRefusal>
     requires built { built (scope_in session.now) (term_tree (names_in session.now) term.now) ≡ true }
+    requires later { catalog.old.next ≤ next }
     requires most { next ≤ 9007199254740992 }
     ensures rises { Rises next result }
-    ensures due { IsAnswered (DenotesTerm (scope_in session.now) (standing_in session.now next) (term_tree (names_in session.now) term.now)) result }
+    ensures due { IsAnswered (DenotesTerm (scope_in session.now) (standing_at catalog.old next) (term_tree (names_in session.now) term.now)) result }
+    ensures kept { catalog.new ≡ catalog.old }
 {
     match term {
-        Term::Basic(basic) => basic_made(session, basic, next, steps),
-        Term::Graph(name) => graph_named(session, name.token, next),
-        Term::Query(query) => query_made(query, session, next, steps),
+        Term::Basic(basic) => basic_made(session, catalog.graphs(), basic, next, steps),
+        Term::Graph(name) => graph_named(session, catalog.graphs(), name.token, next),
+        Term::Query(query) => query_made(query, session, catalog, next, steps),
     }
 }
 
 // The graph whose name stands at a token.
-fn graph_named(session: &Session<'_>, token: u32, next: u64) -> Result<Made, QueryRefusal>
+fn graph_named(
+    session: &Session<'_>,
+    graphs: &GraphList,
+    token: u32,
+    next: u64,
+) -> Result<Made, QueryRefusal>
     requires most { next ≤ 9007199254740992 }
     ensures rises { Rises next result }
-    ensures due { IsAnswered (λ outcome. outcome ≡ Ok (named (standing_in session.now next) (number_at (scope_in session.now).graph_at token))) result }
+    ensures due { IsAnswered (λ outcome. outcome ≡ Ok (named (record { graphs = graphs.now; next = next }) (number_at (scope_in session.now).graph_at token))) result }
 {
     let number = session.checked.graph_at(token).unwrap_or(0);
-    let graph = graph_of_number(session, number)?;
+    let graph = graph_of_number(session.alloc, graphs, number)?;
     Ok(Made { graph, next })
 }
 
 // A copy of the graph of a number.
-fn graph_of_number(session: &Session<'_>, number: u32) -> Result<Graph, Memory>
-    ensures { IfOk result (λ g. g ≡ graph_of_number session.now.graphs.now number) }
+fn graph_of_number(alloc: Global, graphs: &GraphList, number: u32) -> Result<Graph, Memory>
+    ensures { IfOk result (λ g. g ≡ graph_of_number graphs.now number) }
 {
-    match session.graphs.as_slice().get(number as usize) {
+    match graphs.as_slice().get(number as usize) {
         Some(graph) => graph.copy(),
-        None => no_elements(session.alloc),
+        None => no_elements(alloc),
     }
 }
 

@@ -8,6 +8,7 @@ ghost use Rattle.gc_query.specs.Queries.{Denotes};
 ghost use Rattle.gc_query.specs.Steps.{IsStep, IsStepAt, standing};
 
 use crate::fault::QueryRefusal;
+use crate::graph_views::view_step;
 use crate::made::Made;
 use crate::queries::query_made;
 use crate::session::Session;
@@ -19,9 +20,10 @@ use gc_sorts::Checked;
 use std::alloc::Global;
 use std::sync::ledger::Ledger;
 
-/// Evaluates the statement of a number over the graphs of a catalog, and gives the graph that it prints. The
-/// file has to be built. It is refused with the statement's fault exactly where it has one; after a refusal
-/// the catalog is as before. `steps` counts what is read.
+/// Evaluates the statement of a number over the graphs of a catalog, and gives the graph that it prints. A
+/// graph view prints none: its graph stands in the catalog from then on, under its name where that is a word
+/// which no graph has. The file has to be built. A statement is refused with its fault exactly where it has
+/// one; after a refusal the catalog is as before. `steps` counts what is read.
 pub fn step<L: Ledger>(
     alloc: Global,
     checked: &Checked,
@@ -55,8 +57,9 @@ fn statement_step<L: Ledger>(
 {
     match statement {
         Statement::Ask(query) => ask_step(alloc, checked, query, catalog, steps),
-        // No graph view is built.
-        Statement::View { name: _, query: _ } => unreachable!(),
+        Statement::View { name, query } => {
+            view_step(alloc, checked, *name, query, catalog, steps)
+        }
     }
 }
 
@@ -76,22 +79,20 @@ fn ask_step<L: Ledger>(
     Ok(Some(made.graph))
 }
 
-// What a query comes to over the graphs of a catalog.
-fn answered<L: Ledger>(
+/// What a query comes to over the graphs of a catalog, which is as before.
+pub(crate) fn answered<L: Ledger>(
     alloc: Global,
     checked: &Checked,
     query: &Query,
-    catalog: &Catalog,
+    catalog: &mut Catalog,
     steps: &mut Steps<L>,
 ) -> Result<Made, QueryRefusal>
     requires { built (scope_of checked.now 0) (query_tree checked.now.file.names query.now) ≡ true }
-    ensures due { IsAnswered (Denotes (scope_of checked.now 0) (standing catalog.now) (query_tree checked.now.file.names query.now)) result }
-    ensures rises { Rises catalog.now.next result }
+    ensures due { IsAnswered (Denotes (scope_of checked.now 0) (standing catalog.old) (query_tree checked.now.file.names query.now)) result }
+    ensures rises { Rises catalog.old.next result }
+    ensures kept { catalog.new ≡ catalog.old }
 {
-    let session = Session {
-        alloc,
-        checked,
-        graphs: catalog.graphs(),
-    };
-    query_made(query, &session, catalog.next(), steps)
+    let session = Session { alloc, checked };
+    let next = catalog.next();
+    query_made(query, &session, catalog, next, steps)
 }

@@ -11,11 +11,11 @@ use Rattle.gc_base.specs.Faults.{Rose}
 use Rattle.gc_base.specs.Files.{Files}
 use Rattle.gc_spec.specs.Coherence.{shapes_of}
 use Rattle.gc_spec.specs.PropertyGraph.{PropertyGraph}
-use Rattle.gc_catalog.specs.NamedGraphs.{NamedGraphs, number_of}
+use Rattle.gc_catalog.specs.NamedGraphs.{NamedGraphs, is_name, number_of}
 use Rattle.gc_json.specs.FileElements.{Seen}
 use Rattle.gc_ppg.specs.FreeIds.{first_free}
 use Rattle.gcore.specs.Endings.{IsTurnOfGraph}
-use Rattle.gcore.specs.GraphSteps.{ReadsGraphs, StopsReadingGraphs}
+use Rattle.gcore.specs.GraphSteps.{ReadsGraphs, StopsReadingGraphs, name_given}
 use Rattle.gcore.specs.Outcomes.{free_above, then_due, graph_due, graphs_due}
 use Rattle.gcore.specs.Pairs.{has_name, names_differ, are_graphs}
 use Rattle.gcore.specs.Steps.{Reading, StopsReadingGraph}
@@ -185,14 +185,14 @@ nowhere p xs h =
     ap (λ b. cond b (Some (prefix_len (λ x. not (p x)) xs)) None) out
 
 -- where names differ, the name of a pair is none of those of earlier ones
-others : (before : List Pair) (p : Pair) (after : List Pair) → names_differ (before ++ p ∷ after) ≡ true → AllByRecursion (λ name. pointwise nat_eq name p.name ≡ false) (map (λ (q : Pair). q.name) before)
+others : (before : List Pair) (p : Pair) (after : List Pair) → names_differ (before ++ p ∷ after) ≡ true → AllByRecursion (λ name. is_name p.name name ≡ false) (map name_given before)
 others [] p after h = tt
 others (b ∷ before) p after h =
     let parts = split_and (not (has_name (before ++ p ∷ after) b.name)) (names_differ (before ++ p ∷ after)) h in
     (same_name p.name b.name (not_among before p after b.name (not_true (has_name (before ++ p ∷ after) b.name) parts.0)), others before p after parts.1)
 
-pub not_yet : (before : List Pair) (p : Pair) (after : List Pair) → names_differ (before ++ p ∷ after) ≡ true → number_of (map (λ (q : Pair). q.name) before) p.name ≡ None
-not_yet before p after h = nowhere (λ name. pointwise nat_eq name p.name) (map (λ (q : Pair). q.name) before) (others before p after h)
+pub not_yet : (before : List Pair) (p : Pair) (after : List Pair) → names_differ (before ++ p ∷ after) ≡ true → number_of (map name_given before) p.name ≡ None
+not_yet before p after h = nowhere (is_name p.name) (map name_given before) (others before p after h)
 
 -- graph files are under names that differ
 pub graphs_differ : (pairs : List Pair) → are_graphs pairs ≡ true → names_differ pairs ≡ true

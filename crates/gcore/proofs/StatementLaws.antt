@@ -9,7 +9,7 @@ use Rattle.gc_lower.specs.Scopes.{Scope}
 use Rattle.gc_query.specs.Sessions.{Answer, Answers, AnswersAsk, behind, printed_by}
 use Rattle.gc_query.specs.Sessions as says
 use Rattle.gc_query.specs.Standings.{Standing, Made}
-use Rattle.gc_query.specs.Steps.{IsStepAt, standing, with_view}
+use Rattle.gc_query.specs.Steps.{IsStepAt, free_word, standing, with_named, with_next, with_view}
 use Rattle.gc_query.specs.declared.fault.Fault.{Fault}
 use Rattle.gc_spec.specs.PropertyGraph.{PropertyGraph}
 use Rattle.gcore.specs.Endings.{Change, Gains, GainsPrefix, WritesText}
@@ -73,7 +73,11 @@ module _ (s : Scope) (sts : List (Tree AStatement)) (i : ℕ) (before after : Na
 
   -- what stands behind a statement that names a graph; a query statement names none
   view_stands : (statement : Tree AStatement) (made : Made) → Answers s (standing before) statement (says.Names made) → standing (with_view before statement made) ≡ behind (standing before) (says.Names made)
-  view_stands (View name query) made due = refl
+  view_stands (View name query) made due = stands (free_word before.names name.name)
+    where
+      stands : (word : Option (List ℕ)) → standing (with_named (with_next before made.next) word made.graph) ≡ behind (standing before) (says.Names made)
+      stands None = refl
+      stands (Some w) = refl
   view_stands (Ask query) made due = absurd (never due.0 due.2)
     where
       never : (o : Result Made Fault) → AnswersAsk o (says.Names made) → ⊥

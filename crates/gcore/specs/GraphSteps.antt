@@ -1,5 +1,5 @@
 -- What reading the graph files answers.
-use Rattle.std.specs.Prelude.{◌≡◌, ◌<◌, ◌^◌, List, [], length, map, Result, Ok, Err, IfSome, MatchOption, ⊤, ◌⊎◌}
+use Rattle.std.specs.Prelude.{◌≡◌, ℕ, ◌<◌, ◌^◌, List, [], length, map, Option, Some, Result, Ok, Err, IfSome, MatchOption, ⊤, ◌⊎◌}
 use Rattle.gc_base.specs.Faults.{Rose}
 use Rattle.gc_catalog.specs.NamedGraphs.{NamedGraphs}
 use Rattle.gcore.specs.Endings.{IsTurnOfGraph}
@@ -32,10 +32,14 @@ StopsReadingGraphs reading pairs NoGraph = ⊥
 StopsReadingGraphs reading pairs Unwritten = ⊥
 StopsReadingGraphs reading pairs OutOfMemory = ⊤
 
+-- the name under which the graph of a pair stands
+abbrev pub name_given : Pair → Option (List ℕ)
+name_given p = Some p.name
+
 -- a catalog of the graphs that are due, one for each file under its name, with the identities above all of theirs free, or a stop
 abbrev pub ReadsGraphs : Reading → List Pair → Result NamedGraphs Stop → Type 0
 ReadsGraphs reading pairs (Ok c) =
-    (c.names ≡ map (λ (p : Pair). p.name) pairs) × (length c.graphs ≡ length pairs) × IfSome reading.files (λ files. graphs_due files [] pairs ≡ Ok c.graphs)
+    (c.names ≡ map name_given pairs) × (length c.graphs ≡ length pairs) × IfSome reading.files (λ files. graphs_due files [] pairs ≡ Ok c.graphs)
     × (c.next ≡ free_above c.graphs)
 ReadsGraphs reading pairs (Err stop) = StopsReadingGraphs reading pairs stop
 

@@ -1,4 +1,4 @@
-ghost use Rattle.std.specs.Prelude.{◌≡◌, ◌≤◌, ◌++◌, ◌∷◌, [], None, max, true, OnOk};
+ghost use Rattle.std.specs.Prelude.{◌≡◌, ◌≤◌, ◌++◌, ◌∷◌, [], None, Some, max, true, OnOk};
 ghost use Rattle.std.specs.List.{AllByRecursion};
 ghost use Rattle.gc_spec.specs.Coherence.{AreCoherent};
 ghost use Rattle.gc_catalog.specs.NamedGraphs.{number_of};
@@ -44,7 +44,7 @@ fn add_loaded(catalog: &mut Catalog, name: &Name, graph: Graph) -> Result<(), Me
     requires coherent { AllByRecursion (λ h. AreCoherent h graph) catalog.old.graphs }
     requires fresh { number_of catalog.old.names name.now ≡ None }
     ensures graphs { OnOk result (catalog.new.graphs ≡ catalog.old.graphs ++ graph ∷ []) }
-    ensures names { OnOk result (catalog.new.names ≡ catalog.old.names ++ name.now ∷ []) }
+    ensures names { OnOk result (catalog.new.names ≡ catalog.old.names ++ Some name.now ∷ []) }
     ensures next { OnOk result (catalog.new.next ≡ max catalog.old.next (first_free graph)) }
 {
     let free = catalog.next().max(graph.first_free());

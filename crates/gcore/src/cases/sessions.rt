@@ -52,16 +52,65 @@ q: CONSTRUCT (x) MATCH (n) WHERE n.name = "Eva"; CONSTRUCT (x) MATCH (n) WHERE n
 s: «S»
 = 0 {"edges":[],"gcore":1,"nodes":[{"id":18,"labels":[],"properties":{}}],"paths":[]}«line»{"edges":[],"gcore":1,"nodes":[{"id":19,"labels":[],"properties":{}}],"paths":[]}
 
-graph-view-not-built
+graph-view-prints-nothing
 $ run q S=s
 q: GRAPH VIEW v AS (CONSTRUCT (x) MATCH (n) WHERE n.name = "Eva"); v
 s: «S»
-= 11 gcore: not built
+= 0 {"edges":[],"gcore":1,"nodes":[{"id":18,"labels":[],"properties":{}}],"paths":[]}
 
-local-graph-not-built
+local-graph-under-on
 $ run q S=s
 q: GRAPH v AS (CONSTRUCT (x) MATCH (n) WHERE n.name = "Eva") CONSTRUCT (a) MATCH (a) ON v
 s: «S»
+= 0 {"edges":[],"gcore":1,"nodes":[{"id":18,"labels":[],"properties":{}}],"paths":[]}
+
+two-local-graphs-of-one-name-in-two-queries
+$ run q S=s
+q: GRAPH v AS (CONSTRUCT (x) MATCH (n) WHERE n.name = "Eva") v; GRAPH v AS (CONSTRUCT (x) MATCH (n) WHERE n.name = "Eva") v
+s: «S»
+= 0 {"edges":[],"gcore":1,"nodes":[{"id":18,"labels":[],"properties":{}}],"paths":[]}«line»{"edges":[],"gcore":1,"nodes":[{"id":19,"labels":[],"properties":{}}],"paths":[]}
+
+a-view-that-a-later-view-uses
+$ run q S=s
+q: GRAPH VIEW v AS (CONSTRUCT (n) MATCH (n) WHERE n.name = "Bob"); GRAPH VIEW w AS (CONSTRUCT (n :Seen) MATCH (n) ON v); w; v
+s: «S»
+= 0 {"edges":[],"gcore":1,"nodes":[{"id":2,"labels":["Person","Seen"],"properties":{"name":["Bob"]}}],"paths":[]}«line»{"edges":[],"gcore":1,"nodes":[{"id":2,"labels":["Person"],"properties":{"name":["Bob"]}}],"paths":[]}
+
+a-local-graph-that-a-later-head-uses
+$ run q g=a
+a: {"gcore":1,"nodes":[{"id":3}]}
+q: GRAPH v AS (CONSTRUCT (x) MATCH (n)) GRAPH w AS (CONSTRUCT (y {k := 1}) MATCH (n) ON v) v UNION w
+= 0 {"edges":[],"gcore":1,"nodes":[{"id":4,"labels":[],"properties":{}},{"id":5,"labels":[],"properties":{"k":[1]}}],"paths":[]}
+
+a-local-graph-ends-with-its-query
+$ run q g=a
+a: {"gcore":1,"nodes":[{"id":3}]}
+q: GRAPH v AS (GRAPH w AS (CONSTRUCT (x) MATCH (n)) w) GRAPH w AS (g) CONSTRUCT (n) MATCH (n) ON w
+= 0 {"edges":[],"gcore":1,"nodes":[{"id":3,"labels":[],"properties":{}}],"paths":[]}
+
+a-fault-in-a-head-ends-the-query
+$ run q g=a
+a: {"gcore":1,"nodes":[{"id":3}]}
+q: g; GRAPH v AS (CONSTRUCT (x {k := 1/0}) MATCH (n)) v
+> {"edges":[],"gcore":1,"nodes":[{"id":3,"labels":[],"properties":{}}],"paths":[]}
+= 1 gcore: F2 ZeroDivisor 1:30 row 0
+
+a-fault-in-a-view-ends-the-session
+$ run q g=a
+a: {"gcore":1,"nodes":[{"id":3}]}
+q: GRAPH VIEW v AS (CONSTRUCT (x {k := 1/0}) MATCH (n)); g
+= 1 gcore: F2 ZeroDivisor 1:32 row 0
+
+identities-of-a-view-are-spent
+$ run q g=a
+a: {"gcore":1,"nodes":[{"id":3}]}
+q: GRAPH VIEW v AS (CONSTRUCT (x) MATCH (n)); CONSTRUCT (y) MATCH (n) ON v; v INTERSECT (CONSTRUCT (n) MATCH (n) ON v)
+= 0 {"edges":[],"gcore":1,"nodes":[{"id":5,"labels":[],"properties":{}}],"paths":[]}«line»{"edges":[],"gcore":1,"nodes":[{"id":4,"labels":[],"properties":{}}],"paths":[]}
+
+a-view-of-paths-not-built
+$ run q g=a
+a: {"gcore":1,"nodes":[{"id":3}]}
+q: PATH w = (x)-[e]->(y) CONSTRUCT (n) MATCH (n)
 = 11 gcore: not built
 
 minus-takes-the-path-of-a-missing-node

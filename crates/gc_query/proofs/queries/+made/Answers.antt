@@ -5,18 +5,19 @@ use Rattle.gc_ast.specs.declared.construct.Change.{the_lemmas}
 use Rattle.gc_ast.specs.PatternViews.{named_by}
 use Rattle.gc_ast.specs.QueryViews.{basic_tree, next_term_tree, query_tree, term_by, term_tree}
 use Rattle.gc_ast.specs.Trees as tree
+use Rattle.gc_catalog.specs.NamedGraphs.{NamedGraphs}
 use Rattle.gc_expr.specs.Views.{Names, name_of}
 use Rattle.gc_lower.specs.Blocks.{block_of}
 use Rattle.gc_lower.specs.Scopes.{Scope}
 use Rattle.gc_spec.specs.PropertyGraph.{PropertyGraph}
-use Rattle.gc_query.specs.Answered.{IsAnswered, names_in, scope_in, standing_in}
+use Rattle.gc_query.specs.Answered.{IsAnswered, names_in, scope_in, standing_at}
 use Rattle.gc_query.specs.Basics.{DenotesBasic}
 use Rattle.gc_query.specs.Built.{built, no_walks}
 use Rattle.gc_query.specs.Queries.{Combines, Denotes, DenotesTerm, Joined, named}
 use Rattle.gc_query.specs.Standings.{Made, Standing}
 use Rattle.gc_query.specs.declared.fault.Fault.{Fault}
-use Rattle.gc_query.proofs.BuiltParts.{of_basic, of_inner}
-use Rattle.gc_query.proofs.BuiltRests.{first_is, later_are, rest_is, term_is}
+use Rattle.gc_query.proofs.BuiltParts.{of_basic, of_inner, of_next}
+use Rattle.gc_query.proofs.BuiltRests.{first_is, heads_are, later_are, next_is, rest_is}
 use Rattle.gc_query.proofs.AllOf.{got}
 use Rattle.gc_query.proofs.Outcomes.{passes_on, refused}
 use Rattle.gc_query.proofs.QueriesWhole.{basic_comes, inner_comes, joining_fails, joins, query_comes, term_fails}
@@ -29,7 +30,11 @@ joined-term_made-requires g t c κs within =
     let at : slice_get c.args.rest.now c.loop-later.later-index ≡ Some c.later-item.result = got c.args.rest.now c.loop-later.later-index c.later-item.result (omega arith) c.later-item.is in
     let left : Made = record { graph = c.left.inside.graph; next = c.left.inside.next } in
     let same : left ≡ c.loop-later.left = c.left.view_is in
-    (search (rules, the_lemmas), (within, (term_is s names c.args.rest.now c.loop-later.later-index c.later-item.result at c.loop-later.invariant.built, subst (λ (m : Made). m.next ≤ 9007199254740992) (sym same) c.loop-later.invariant.most)))
+    (search (rules, the_lemmas), (within, (
+      sym (of_next s names c.later-item.result) ∙ next_is s (next_term_tree names) c.args.rest.now c.loop-later.later-index c.later-item.result at c.loop-later.invariant.built,
+      omega (arith, c.requires.later, c.loop-later.invariant.later, ap (λ (n : NamedGraphs). n.next) c.loop-later.invariant.kept, ap (λ (m : Made). m.next) same),
+      subst (λ (m : Made). m.next ≤ 9007199254740992) (sym same) c.loop-later.invariant.most,
+    )))
 
 pub joined-returns-in_err-right-clause-due : goal.joined-returns-in_err-right-clause-due
 joined-returns-in_err-right-clause-due g t c =
@@ -38,9 +43,10 @@ joined-returns-in_err-right-clause-due g t c =
     let at : slice_get c.args.rest.now c.loop-later.later-index ≡ Some c.later-item.result = got c.args.rest.now c.loop-later.later-index c.later-item.result (omega arith) c.later-item.is in
     let left : Made = record { graph = c.left.inside.graph; next = c.left.inside.next } in
     let same : left ≡ c.loop-later.left = c.left.view_is in
-    let graphs : List PropertyGraph = c.args.session.now.graphs.now in
-    refused (Joined s graphs c.args.first (tree.row (map (next_term_tree names) c.args.rest.now))) (DenotesTerm s (standing_in c.args.session.now left.next) (term_tree names c.later-item.result.term)) c.from_residual.result c.in_err-right.field-0.0 c.from_residual.ensures.0 c.from_residual.ensures.1
-    (λ fault d. c.loop-later.invariant.leads (Err fault) (subst (λ l. Joined s graphs l (tree.row (map (next_term_tree names) (drop c.loop-later.later-index c.args.rest.now))) (Err fault)) same (term_fails s names graphs c.args.rest.now c.loop-later.later-index c.later-item.result at left fault d))) c.in_err-right.ensures.due
+    let graphs : List PropertyGraph = c.args.catalog.now.graphs in
+    refused (λ fault. DenotesTerm s (standing_at c.args.catalog.now left.next) (term_tree names c.later-item.result.term) (Err fault)) c.in_err-right.field-0.0 (c.in_err-right.ensures.due)
+    (Joined s graphs c.args.first (tree.row (map (next_term_tree names) c.args.rest.now))) c.from_residual.result c.from_residual.ensures.0 c.from_residual.ensures.1
+    (λ fault d. c.loop-later.invariant.leads (Err fault) (subst (λ l. Joined s graphs l (tree.row (map (next_term_tree names) (drop c.loop-later.later-index c.args.rest.now))) (Err fault)) same (term_fails s names graphs c.args.rest.now c.loop-later.later-index c.later-item.result at left fault d)))
 
 pub joined-returns-in_err-left-clause-due : goal.joined-returns-in_err-left-clause-due
 joined-returns-in_err-left-clause-due g t c =
@@ -49,10 +55,11 @@ joined-returns-in_err-left-clause-due g t c =
     let at : slice_get c.args.rest.now c.loop-later.later-index ≡ Some c.later-item.result = got c.args.rest.now c.loop-later.later-index c.later-item.result (omega arith) c.later-item.is in
     let left : Made = record { graph = c.left.inside.graph; next = c.left.inside.next } in
     let same : left ≡ c.loop-later.left = c.left.view_is in
-    let graphs : List PropertyGraph = c.args.session.now.graphs.now in
-    refused (Joined s graphs c.args.first (tree.row (map (next_term_tree names) c.args.rest.now))) (Combines c.later-item.result.op left.graph c.in_ok-right.right) c.from_residual-in_err-left.result c.in_err-left.field-0.0 c.from_residual-in_err-left.ensures.0 c.from_residual-in_err-left.ensures.1
+    let graphs : List PropertyGraph = c.args.catalog.now.graphs in
+    refused (λ fault. Combines c.later-item.result.op left.graph c.in_ok-right.right (Err fault)) c.in_err-left.field-0.0 c.in_err-left.ensures
+    (Joined s graphs c.args.first (tree.row (map (next_term_tree names) c.args.rest.now))) c.from_residual-in_err-left.result c.from_residual-in_err-left.ensures.0 c.from_residual-in_err-left.ensures.1
     (λ fault d. c.loop-later.invariant.leads (Err fault)
-    (subst (λ l. Joined s graphs l (tree.row (map (next_term_tree names) (drop c.loop-later.later-index c.args.rest.now))) (Err fault)) same (joining_fails s names graphs c.args.rest.now c.loop-later.later-index c.later-item.result at left c.in_ok-right.right c.in_ok-right.ensures.due fault d))) c.in_err-left.ensures
+    (subst (λ l. Joined s graphs l (tree.row (map (next_term_tree names) (drop c.loop-later.later-index c.args.rest.now))) (Err fault)) same (joining_fails s names graphs c.args.rest.now c.loop-later.later-index c.later-item.result at left c.in_ok-right.right c.in_ok-right.ensures.due fault d)))
 
 pub joined-loop-later-preserved : goal.joined-loop-later-preserved
 joined-loop-later-preserved g t c =
@@ -61,45 +68,134 @@ joined-loop-later-preserved g t c =
     let at : slice_get c.args.rest.now c.loop-later.later-index ≡ Some c.later-item.result = got c.args.rest.now c.loop-later.later-index c.later-item.result (omega arith) c.later-item.is in
     let left : Made = record { graph = c.left.inside.graph; next = c.left.inside.next } in
     let same : left ≡ c.loop-later.left = c.left.view_is in
-    let graphs : List PropertyGraph = c.args.session.now.graphs.now in
+    let graphs : List PropertyGraph = c.args.catalog.now.graphs in
     let inv = c.loop-later.invariant in
     let both = c.in_ok-left.ensures in
     record {
-      built = later_are s names c.args.rest.now c.loop-later.later-index c.later-item.result at inv.built;
+      built = later_are s (next_term_tree names) c.args.rest.now c.loop-later.later-index c.later-item.result at inv.built;
       later = omega (arith, inv.later, ap (λ (m : Made). m.next) same, c.in_ok-right.ensures.rises, both.2);
       most = omega (arith, c.in_ok-right.ensures.rises, both.2);
+      kept = c.in_ok-right.ensures.kept ∙ inv.kept;
       leads = λ outcome j. inv.leads outcome (subst (λ l. Joined s graphs l (tree.row (map (next_term_tree names) (drop c.loop-later.later-index c.args.rest.now))) outcome) same
           (joins s names graphs c.args.rest.now c.loop-later.later-index c.later-item.result at left c.in_ok-right.right c.in_ok-right.ensures.due c.in_ok-left.left both outcome j));
     }
 
-pub query_made-term_made-requires : goal.query_made-term_made-requires
-query_made-term_made-requires g t c κs within =
-    (search (rules, the_lemmas), (within, (first_is (scope_in c.args.session.now) (names_in c.args.session.now) c.args.query.now c.requires.built, c.requires.most)))
+pub query_made-query_under-requires : goal.query_made-query_under-requires
+query_made-query_under-requires g t c κs within = (search (rules, the_lemmas), (within, c.requires))
 
-pub query_made-joined-requires : goal.query_made-joined-requires
-query_made-joined-requires g t c κs within =
+pub query_made-back_to-requires-clause-there : goal.query_made-back_to-requires-clause-there
+query_made-back_to-requires-clause-there g t c = subst (λ n. n ≤ length c.query_under-result.new.catalog.graphs) (sym c.len-graphs.ensures) c.query_under-result.ensures.longer.count
+
+pub query_made-back_to-requires-clause-below : goal.query_made-back_to-requires-clause-below
+query_made-back_to-requires-clause-below g t c = c.next-free.ensures.valid.below
+
+pub query_made-returns-clause-kept : goal.query_made-returns-clause-kept
+query_made-returns-clause-kept g t c = first_again c.args.catalog.now c.query_under-result.new.catalog c.next-free.ensures.valid.as_many c.query_under-result.ensures.longer
+
+pub query_under-heads_stood-requires : goal.query_under-heads_stood-requires
+query_under-heads_stood-requires g t c κs within =
     let s : Scope = scope_in c.args.session.now in
     let names : Names = names_in c.args.session.now in
-    let is : built s (tree.row (map (next_term_tree names) c.deref.result.now)) ≡ true =
-    ap (λ items. built s (tree.row (map (next_term_tree names) items))) c.deref.ensures.value ∙ rest_is s names c.args.query.now c.requires.built in
-    (rw c.deref.ensures.value (search (rules, the_lemmas)), (within, (is, c.in_ok-first.ensures.rises.1)))
+    let are : built s (tree.row (map (head_tree names) c.deref.result.now)) ≡ true =
+    ap (λ items. built s (tree.row (map (head_tree names) items))) c.deref.ensures.value ∙ heads_are s names c.args.query.now c.requires.built in
+    (rw c.deref.ensures.value (search (rules, the_lemmas)), (within, (are, c.requires.later, c.requires.most)))
 
-pub query_made-returns-in_err-first-clause-due : goal.query_made-returns-in_err-first-clause-due
-query_made-returns-in_err-first-clause-due g t c =
+pub query_under-term_made-requires : goal.query_under-term_made-requires
+query_under-term_made-requires g t c κs within =
+    (search (rules, the_lemmas), (within, (first_is (scope_in c.args.session.now) (names_in c.args.session.now) c.args.query.now c.requires.built, c.in_ok-free.ensures.rises.1, c.in_ok-free.ensures.rises.2)))
+
+pub query_under-joined-requires : goal.query_under-joined-requires
+query_under-joined-requires g t c κs within =
     let s : Scope = scope_in c.args.session.now in
     let names : Names = names_in c.args.session.now in
-    let at : Standing = standing_in c.args.session.now c.args.next in
-    refused (Denotes s at (query_tree names c.args.query.now)) (DenotesTerm s at (term_tree names (out-Query c.args.query.now).first)) c.from_residual.result c.in_err-first.field-0.0 c.from_residual.ensures.0 c.from_residual.ensures.1
-    (λ fault d. query_comes s names at c.args.query.now c.requires.built (Err fault) (Err fault) d refl) c.in_err-first.ensures.due
+    let is : built s (tree.row (map (next_term_tree names) c.deref-2.result.now)) ≡ true =
+    ap (λ items. built s (tree.row (map (next_term_tree names) items))) c.deref-2.ensures.value ∙ rest_is s names c.args.query.now c.requires.built in
+    (rw c.deref-2.ensures.value (search (rules, the_lemmas)), (within, (is, omega (arith, ap (λ (n : NamedGraphs). n.next) c.in_ok-first.ensures.kept, c.in_ok-free.ensures.rises, c.in_ok-first.ensures.rises), c.in_ok-first.ensures.rises.1)))
 
-pub query_made-returns-clause-due : goal.query_made-returns-clause-due
-query_made-returns-clause-due g t c =
+pub query_under-returns-in_err-free-clause-due : goal.query_under-returns-in_err-free-clause-due
+query_under-returns-in_err-free-clause-due g t c =
     let s : Scope = scope_in c.args.session.now in
     let names : Names = names_in c.args.session.now in
-    let at : Standing = standing_in c.args.session.now c.args.next in
-    passes_on (Denotes s at (query_tree names c.args.query.now)) (Joined s at.graphs c.in_ok-first.first (tree.row (map (next_term_tree names) c.deref.result.now))) c.joined.result
-    (λ outcome j. query_comes s names at c.args.query.now c.requires.built (Ok c.in_ok-first.first) outcome c.in_ok-first.ensures.due
-    (subst (λ items. Joined s at.graphs c.in_ok-first.first (tree.row (map (next_term_tree names) items)) outcome) c.deref.ensures.value j)) c.joined.ensures.due
+    let at : Standing = standing_at c.args.catalog.now c.args.next in
+    refused (λ fault. Heads s at (tree.row (map (head_tree names) (out-Query c.args.query.now).heads.items)) (Err fault)) c.in_err-free.field-0.0
+    (subst (λ items. AreStood (Heads s at (tree.row (map (head_tree names) items))) c.heads_stood.new.catalog (Err c.in_err-free.field-0.0)) c.deref.ensures.value c.in_err-free.ensures.due)
+    (Denotes s at (query_tree names c.args.query.now)) c.from_residual.result c.from_residual.ensures.0 c.from_residual.ensures.1
+    (λ fault h. query_comes s names at c.args.query.now (Err fault) (Err fault) h refl)
+
+pub query_under-returns-in_err-first-clause-due : goal.query_under-returns-in_err-first-clause-due
+query_under-returns-in_err-first-clause-due g t c =
+    let s : Scope = scope_in c.args.session.now in
+    let names : Names = names_in c.args.session.now in
+    let at : Standing = standing_at c.args.catalog.now c.args.next in
+    let now : Standing = standing_at c.heads_stood.new.catalog c.in_ok-free.free in
+    refused (λ fault. DenotesTerm s now (term_tree names (out-Query c.args.query.now).first) (Err fault)) c.in_err-first.field-0.0 c.in_err-first.ensures.due
+    (Denotes s at (query_tree names c.args.query.now)) c.from_residual-in_err-first.result c.from_residual-in_err-first.ensures.0 c.from_residual-in_err-first.ensures.1
+    (λ fault d. query_comes s names at c.args.query.now (Ok now) (Err fault)
+    (subst (λ items. Heads s at (tree.row (map (head_tree names) items)) (Ok now)) c.deref.ensures.value c.in_ok-free.ensures.due)
+    (terms_come s now (term_tree names (out-Query c.args.query.now).first) (tree.row (map (next_term_tree names) (out-Query c.args.query.now).rest.items)) (Err fault) (Err fault) d refl))
+
+pub query_under-returns-clause-due : goal.query_under-returns-clause-due
+query_under-returns-clause-due g t c =
+    let s : Scope = scope_in c.args.session.now in
+    let names : Names = names_in c.args.session.now in
+    let at : Standing = standing_at c.args.catalog.now c.args.next in
+    let now : Standing = standing_at c.heads_stood.new.catalog c.in_ok-free.free in
+    let same : c.term_made.new.catalog.graphs ≡ now.graphs = ap (λ (n : NamedGraphs). n.graphs) c.in_ok-first.ensures.kept in
+    passes_on (Denotes s at (query_tree names c.args.query.now)) (Joined s c.term_made.new.catalog.graphs c.in_ok-first.first (tree.row (map (next_term_tree names) c.deref-2.result.now))) c.joined.result
+    (λ outcome j. query_comes s names at c.args.query.now (Ok now) outcome
+    (subst (λ items. Heads s at (tree.row (map (head_tree names) items)) (Ok now)) c.deref.ensures.value c.in_ok-free.ensures.due)
+    (terms_come s now (term_tree names (out-Query c.args.query.now).first) (tree.row (map (next_term_tree names) (out-Query c.args.query.now).rest.items)) (Ok c.in_ok-first.first) outcome c.in_ok-first.ensures.due
+    (subst (λ graphs. Joined s graphs c.in_ok-first.first (tree.row (map (next_term_tree names) (out-Query c.args.query.now).rest.items)) outcome) same
+    (subst (λ items. Joined s c.term_made.new.catalog.graphs c.in_ok-first.first (tree.row (map (next_term_tree names) items)) outcome) c.deref-2.ensures.value j)))) c.joined.ensures.due
+
+pub query_under-returns-in_err-first-clause-longer : goal.query_under-returns-in_err-first-clause-longer
+query_under-returns-in_err-first-clause-longer g t c = subst (IsLonger c.args.catalog.now) (sym c.in_err-first.ensures.kept) c.in_ok-free.ensures.longer
+
+pub query_under-returns-clause-longer : goal.query_under-returns-clause-longer
+query_under-returns-clause-longer g t c = subst (IsLonger c.args.catalog.now) (sym (c.joined.ensures.kept ∙ c.in_ok-first.ensures.kept)) c.in_ok-free.ensures.longer
+
+pub heads_stood-loop-head-init : goal.heads_stood-loop-head-init
+heads_stood-loop-head-init g t c = record { built = c.requires.built; rises = omega arith; later = c.requires.later; most = c.requires.most; longer = as_long c.args.catalog.now; leads = λ under h. h }
+
+pub heads_stood-head_stood-requires : goal.heads_stood-head_stood-requires
+heads_stood-head_stood-requires g t c κs within =
+    let s : Scope = scope_in c.args.session.now in
+    let names : Names = names_in c.args.session.now in
+    let at : slice_get c.args.heads.now c.loop-head.head-index ≡ Some c.head-item.result = got c.args.heads.now c.loop-head.head-index c.head-item.result (omega arith) c.head-item.is in
+    (search (rules, the_lemmas), (within, (next_is s (head_tree names) c.args.heads.now c.loop-head.head-index c.head-item.result at c.loop-head.invariant.built, c.loop-head.invariant.later, c.loop-head.invariant.most)))
+
+pub heads_stood-loop-head-preserved : goal.heads_stood-loop-head-preserved
+heads_stood-loop-head-preserved g t c =
+    let s : Scope = scope_in c.args.session.now in
+    let names : Names = names_in c.args.session.now in
+    let at : slice_get c.args.heads.now c.loop-head.head-index ≡ Some c.head-item.result = got c.args.heads.now c.loop-head.head-index c.head-item.result (omega arith) c.head-item.is in
+    let inv = c.loop-head.invariant in
+    let now : Standing = standing_at c.head_stood.new.catalog c.in_ok-free.free in
+    record {
+      built = later_are s (head_tree names) c.args.heads.now c.loop-head.head-index c.head-item.result at inv.built;
+      rises = omega (arith, inv.rises, c.in_ok-free.ensures.rises);
+      later = c.in_ok-free.ensures.rises.1;
+      most = c.in_ok-free.ensures.rises.2;
+      longer = longer_yet c.args.catalog.now c.loop-head.catalog c.head_stood.new.catalog inv.longer c.in_ok-free.ensures.longer;
+      leads = λ under h. inv.leads under
+          (subst (λ heads. Heads s (standing_at c.loop-head.catalog c.loop-head.free) (tree.row (map (head_tree names) heads)) under) (sym (drop_at c.args.heads.now c.loop-head.head-index c.head-item.result at))
+          (goes_on s (standing_at c.loop-head.catalog c.loop-head.free) now (head_tree names c.head-item.result) (tree.row (map (head_tree names) (drop (c.loop-head.head-index + 1) c.args.heads.now))) under c.in_ok-free.ensures.due h));
+    }
+
+pub heads_stood-returns-in_err-free-clause-due : goal.heads_stood-returns-in_err-free-clause-due
+heads_stood-returns-in_err-free-clause-due g t c =
+    let s : Scope = scope_in c.args.session.now in
+    let names : Names = names_in c.args.session.now in
+    let at : slice_get c.args.heads.now c.loop-head.head-index ≡ Some c.head-item.result = got c.args.heads.now c.loop-head.head-index c.head-item.result (omega arith) c.head-item.is in
+    let now : Standing = standing_at c.loop-head.catalog c.loop-head.free in
+    not_stood (λ fault. Heads s now (tree.more (head_tree names c.head-item.result) tree.none) (Err fault)) c.in_err-free.field-0.0 c.in_err-free.ensures.due
+    (Heads s (standing_at c.args.catalog.now c.args.next) (tree.row (map (head_tree names) c.args.heads.now))) c.head_stood.new.catalog c.from_residual.result c.from_residual.ensures.0 c.from_residual.ensures.1
+    (λ fault h. c.loop-head.invariant.leads (Err fault)
+    (subst (λ heads. Heads s now (tree.row (map (head_tree names) heads)) (Err fault)) (sym (drop_at c.args.heads.now c.loop-head.head-index c.head-item.result at))
+    (head_fails s now (head_tree names c.head-item.result) (tree.row (map (head_tree names) (drop (c.loop-head.head-index + 1) c.args.heads.now))) fault h)))
+
+pub heads_stood-returns-in_err-free-clause-longer : goal.heads_stood-returns-in_err-free-clause-longer
+heads_stood-returns-in_err-free-clause-longer g t c = longer_yet c.args.catalog.now c.loop-head.catalog c.head_stood.new.catalog c.loop-head.invariant.longer c.in_err-free.ensures.longer
 
 pub term_made-basic_made-requires-clause-walks : goal.term_made-basic_made-requires-clause-walks
 term_made-basic_made-requires-clause-walks g t c =
@@ -113,7 +209,7 @@ term_made-query_made-requires g t c κs within =
     let names : Names = names_in c.args.session.now in
     let is : built s (query_tree names c.deref-in-Query.result.now) ≡ true =
     ap (λ (q : Query). built s (query_tree names q)) c.deref-in-Query.ensures ∙ (sym (of_inner s names c.in-Query.query) ∙ (sym (ap (λ x. built s (term_tree names x)) c.in-Query.is) ∙ c.requires.built)) in
-    (search (rules, the_lemmas), (within, (is, c.requires.most)))
+    (search (rules, the_lemmas), (within, (is, c.requires.later, c.requires.most)))
 
 pub term_made-returns-in-Graph-clause-due : goal.term_made-returns-in-Graph-clause-due
 unfolding term_by Denotes
@@ -121,13 +217,13 @@ term_made-returns-in-Graph-clause-due g t c =
     let s : Scope = scope_in c.args.session.now in
     let names : Names = names_in c.args.session.now in
     let e : term_tree names c.args.term.now ≡ tree.GraphTerm (named_by (name_of names) c.in-Graph.name) = rw c.in-Graph.is (search (rules, the_lemmas)) in
-    subst (λ tree. IsAnswered (DenotesTerm s (standing_in c.args.session.now c.args.next) tree) c.graph_named.result) (sym e) c.graph_named.ensures.due
+    subst (λ tree. IsAnswered (DenotesTerm s (standing_at c.args.catalog.now c.args.next) tree) c.graph_named.result) (sym e) c.graph_named.ensures.due
 
 pub term_made-returns-in-Basic-clause-due : goal.term_made-returns-in-Basic-clause-due
 term_made-returns-in-Basic-clause-due g t c =
     let s : Scope = scope_in c.args.session.now in
     let names : Names = names_in c.args.session.now in
-    let at : Standing = standing_in c.args.session.now c.args.next in
+    let at : Standing = standing_at c.args.catalog.now c.args.next in
     passes_on (DenotesTerm s at (term_tree names c.args.term.now)) (DenotesBasic s at (basic_tree names c.deref.result.now)) c.basic_made.result
     (λ outcome d. subst (λ x. DenotesTerm s at (term_tree names x) outcome) (sym c.in-Basic.is)
     (basic_comes s names at c.in-Basic.basic outcome (subst (λ (b : Basic). DenotesBasic s at (basic_tree names b) outcome) c.deref.ensures d))) c.basic_made.ensures.due
@@ -136,7 +232,7 @@ pub term_made-returns-in-Query-clause-due : goal.term_made-returns-in-Query-clau
 term_made-returns-in-Query-clause-due g t c =
     let s : Scope = scope_in c.args.session.now in
     let names : Names = names_in c.args.session.now in
-    let at : Standing = standing_in c.args.session.now c.args.next in
+    let at : Standing = standing_at c.args.catalog.now c.args.next in
     passes_on (DenotesTerm s at (term_tree names c.args.term.now)) (Denotes s at (query_tree names c.deref-in-Query.result.now)) c.query_made.result
     (λ outcome d. subst (λ x. DenotesTerm s at (term_tree names x) outcome) (sym c.in-Query.is)
     (inner_comes s names at c.in-Query.query outcome (subst (λ (q : Query). Denotes s at (query_tree names q) outcome) c.deref-in-Query.ensures d))) c.query_made.ensures.due

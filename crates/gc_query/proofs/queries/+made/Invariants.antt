@@ -1,12 +1,24 @@
 use Rattle.std.proofs.Common.{◌≡◌, ◌≤◌, true, drop, map, Result}
-use Rattle.gc_ast.specs.QueryViews.{next_term_tree}
+use Rattle.gc_ast.specs.QueryViews.{head_tree, next_term_tree}
 use Rattle.gc_ast.specs.Trees.{row}
-use Rattle.gc_query.specs.Answered.{names_in, scope_in}
+use Rattle.gc_query.specs.Answered.{IsLonger, names_in, scope_in, standing_at}
 use Rattle.gc_query.specs.Built.{built}
-use Rattle.gc_query.specs.Queries.{Joined}
-use Rattle.gc_query.specs.Standings.{Made}
+use Rattle.gc_query.specs.Queries.{Heads, Joined}
+use Rattle.gc_query.specs.Standings.{Standing, Made}
 use Rattle.gc_query.specs.declared.fault.Fault.{Fault}
 use Rattle.gc_query.proofs.queries.+made.Given as goal
+
+-- what stands under the heads that are left stands under all
+abbrev pub invariant-heads_stood-loop-head : goal.invariant-heads_stood-loop-head
+invariant-heads_stood-loop-head g l = record {
+  built : built (scope_in l.session) (row (map (head_tree (names_in l.session)) (drop l.head-index l.heads))) ≡ true;
+  rises : l.fn.next ≤ l.free;
+  later : l.catalog.next ≤ l.free;
+  most : l.free ≤ 9007199254740992;
+  longer : IsLonger l.initial.catalog l.catalog;
+  leads : (under : Result Standing Fault) → Heads (scope_in l.session) (standing_at l.catalog l.free) (row (map (head_tree (names_in l.session)) (drop l.head-index l.heads))) under
+      → Heads (scope_in l.session) (standing_at l.initial.catalog l.fn.next) (row (map (head_tree (names_in l.session)) l.heads)) under;
+}
 
 -- what the terms that are left come to is what all come to
 abbrev pub invariant-joined-loop-later : goal.invariant-joined-loop-later
@@ -14,6 +26,7 @@ invariant-joined-loop-later g l = record {
   built : built (scope_in l.session) (row (map (next_term_tree (names_in l.session)) (drop l.later-index l.rest))) ≡ true;
   later : l.fn.first.next ≤ l.left.next;
   most : l.left.next ≤ 9007199254740992;
-  leads : (outcome : Result Made Fault) → Joined (scope_in l.session) l.session.graphs.now l.left (row (map (next_term_tree (names_in l.session)) (drop l.later-index l.rest))) outcome
-      → Joined (scope_in l.session) l.session.graphs.now l.fn.first (row (map (next_term_tree (names_in l.session)) l.rest)) outcome;
+  kept : l.catalog ≡ l.initial.catalog;
+  leads : (outcome : Result Made Fault) → Joined (scope_in l.session) l.initial.catalog.graphs l.left (row (map (next_term_tree (names_in l.session)) (drop l.later-index l.rest))) outcome
+      → Joined (scope_in l.session) l.initial.catalog.graphs l.fn.first (row (map (next_term_tree (names_in l.session)) l.rest)) outcome;
 }

@@ -6,9 +6,8 @@ use Rattle.gc_ppg.proofs.Agreement.{coherent_with_each}
 use Rattle.gc_catalog.specs.NamedGraphs.{number_of}
 use Rattle.gc_ppg.specs.FreeIds.{first_free}
 use Rattle.gcore.specs.Outcomes.{free_above}
-use Rattle.gcore.specs.GraphSteps.{ReadsGraphs}
+use Rattle.gcore.specs.GraphSteps.{ReadsGraphs, name_given}
 use Rattle.gcore.specs.Pairs.{names_differ}
-use Rattle.gcore.specs.declared.pair.Pair.{Pair}
 use Rattle.gcore.specs.declared.stop.Stop.TheVariants.{OutOfMemory}
 use Rattle.gcore.proofs.GraphsRead.{free_more, take_item, around_item, gained, stops, reads_stop, length_more, map_more, not_yet}
 use Rattle.gcore.proofs.graphs.read_graphs.Goals as goal
@@ -53,7 +52,7 @@ loop-pair-preserved g c =
       due = gained (g.F.Folder.files c.loop-pair.folder) (g.F.Folder.files c.read_graph.new.folder) (take i pairs) (take (i + 1) pairs) pair c.loop-pair.seen graphs c.add_loaded.new.catalog.graphs graph
           c.in_ok-graph.ensures.kept more longer inv.seen inv.due c.in_ok-graph.ensures.outcome;
       names = c.in_ok-add_loaded.ensures.names
-          ∙ (ap (λ names. names ++ pair.name ∷ []) inv.names ∙ (map_more (λ (p : Pair). p.name) (take i pairs) pair ∙ ap (map (λ (p : Pair). p.name)) (sym more)));
+          ∙ (ap (λ names. names ++ name_given pair ∷ []) inv.names ∙ (map_more name_given (take i pairs) pair ∙ ap (map name_given) (sym more)));
       next = c.in_ok-add_loaded.ensures.next ∙ (ap (λ n. max n (first_free graph)) inv.next ∙ (sym (free_more graphs graph) ∙ ap free_above (sym longer)));
       count = ap length longer ∙ (length_more graphs graph ∙ ap (λ n. n + 1) inv.count);
       seen = c.in_ok-add.ensures.ok ∙ (ap (λ s. s ++ shapes_of graph ∷ []) inv.seen ∙ (map_more shapes_of graphs graph ∙ ap (map shapes_of) (sym longer)));
