@@ -1,9 +1,9 @@
 -- What a statement does to what stands, by what its query comes to.
-use Rattle.std.proofs.Common.{◌≡◌, ◌<◌, ◌+◌, ◌&&◌, ℕ, zero, suc, Bool, true, false, List, [], ◌∷◌, map, length, get_or, Option, Some, None, Result, Ok, Err, refl, sym, ap, subst, ◌∙◌, arith, slice_get, rules}
+use Rattle.std.proofs.Common.{◌≡◌, ◌<◌, ◌+◌, ◌&&◌, ℕ, zero, suc, Bool, true, false, List, [], ◌∷◌, map, length, get_or, Option, Some, None, if◌then◌else◌, Result, Ok, Err, refl, sym, ap, subst, ◌∙◌, arith, slice_get, rules}
 use Rattle.std.specs.List.{list_all}
 use Rattle.std.specs.Result.{IsErr, IsErrAnd}
 use Rattle.gc_ast.specs.QueryViews.{query_tree, statement_tree}
-use Rattle.gc_ast.specs.Trees.{Tree, AQuery, AStatement, Ask}
+use Rattle.gc_ast.specs.Trees.{Tree, AQuery, AStatement, Ask, View}
 use Rattle.gc_ast.specs.Trees as tree
 use Rattle.gc_ast.specs.declared.query.Query.{Query}
 use Rattle.gc_ast.specs.declared.query.Statement.{Statement}
@@ -13,26 +13,49 @@ use Rattle.gc_catalog.specs.NamedGraphs.{NamedGraphs}
 use Rattle.gc_expr.specs.Views.{Names}
 use Rattle.gc_lower.specs.Scopes.{Scope}
 use Rattle.gc_spec.specs.PropertyGraph.{PropertyGraph}
-use Rattle.gc_query.specs.Answered.{IsAnswered}
+use Rattle.gc_query.specs.Answered.{IsRefused}
 use Rattle.gc_query.specs.Built.{built}
-use Rattle.gc_query.specs.Queries.{Denotes}
-use Rattle.gc_query.specs.Standings.{Made}
+use Rattle.gc_query.specs.Queries.{Denotes, fits}
+use Rattle.gc_query.specs.Sessions.{Answer, Answers, Fails, Names as NamesGraph, Prints}
+use Rattle.gc_query.specs.Standings.{Made, Standing}
 use Rattle.gc_query.specs.Steps.{IsStep, standing}
 use Rattle.gc_query.specs.declared.fault.Fault.{Fault}
+use Rattle.gc_query.specs.declared.fault.Fault.TheVariants.{NoGraph}
 use Rattle.gc_query.specs.declared.fault.QueryRefusal.{QueryRefusal}
 use Rattle.gc_query.specs.declared.fault.QueryRefusal.TheVariants as refusal
 use Rattle.gc_query.proofs.AllOf.{got}
 
--- a query statement that is refused
-module _ (s : Scope) (before : NamedGraphs) (query : Tree AQuery) where
-  told : (r : QueryRefusal) → IsAnswered (Denotes s (standing before) query) (Err r) → IsStep s before before (Ask query) (Err r)
-  told (refusal.Fault fault) d = ((Err fault, d, refl), refl)
-  told refusal.Memory d = refl
+-- a statement that is refused leaves the catalog as it was
+module _ (s : Scope) (before after : NamedGraphs) (kept : after ≡ before) (statement : Tree AStatement) (IsPart : Fault → Type 0)
+    (fails : (fault : Fault) → IsPart fault → Answers s (standing before) statement (Fails fault)) where
+  told : (r : QueryRefusal) → IsRefused IsPart r → IsStep s before after statement (Err r)
+  told (refusal.Fault fault) h = (fails fault h, kept)
+  told refusal.Memory h = kept
 
-  pub step_refused : (result : Result (Option PropertyGraph) QueryRefusal) (r : QueryRefusal) → IsErr result → IsErrAnd result (λ other. other ≡ r)
-      → IsAnswered (Denotes s (standing before) query) (Err r) → IsStep s before before (Ask query) result
-  step_refused (Ok printed) r err same d = absurd same
-  step_refused (Err other) r err same d = subst (λ x. IsStep s before before (Ask query) (Err x)) (sym same) (told r d)
+  pub step_refused : (result : Result (Option PropertyGraph) QueryRefusal) (r : QueryRefusal) → IsErr result → IsErrAnd result (λ other. other ≡ r) → IsRefused IsPart r → IsStep s before after statement result
+  step_refused (Ok printed) r err same h = absurd same
+  step_refused (Err other) r err same h = subst (λ x. IsStep s before after statement (Err x)) (sym same) (told r h)
+
+-- what a statement answers, by what its query comes to
+module _ (s : Scope) (at : Standing) (query : Tree AQuery) where
+  pub ask_fails : (fault : Fault) → Denotes s at query (Err fault) → Answers s at (Ask query) (Fails fault)
+  ask_fails fault d = (Err fault, d, refl)
+
+  pub ask_prints : (made : Made) → Denotes s at query (Ok made) → Answers s at (Ask query) (Prints made)
+  ask_prints made d = (Ok made, d, refl)
+
+  module _ (name : tree.Named) where
+    abbrev named_if : Made → Bool → Answer
+    named_if made t = if t then NamesGraph made else Fails NoGraph
+
+    pub view_fails : (fault : Fault) → Denotes s at query (Err fault) → Answers s at (View name query) (Fails fault)
+    view_fails fault d = (Err fault, d, refl)
+
+    pub view_unfit : (made : Made) → Denotes s at query (Ok made) → fits at made ≡ false → Answers s at (View name query) (Fails NoGraph)
+    view_unfit made d h = (Ok made, d, sym (ap (named_if made) h))
+
+    pub view_names : (made : Made) → Denotes s at query (Ok made) → fits at made ≡ true → Answers s at (View name query) (NamesGraph made)
+    view_names made d h = (Ok made, d, sym (ap (named_if made) h))
 
 -- which statements are built
 module _ (s : Scope) (names : Names) where
@@ -40,9 +63,9 @@ module _ (s : Scope) (names : Names) where
   unfolding built
   ask_built x q is h = subst (λ y. built s (statement_tree names y) ≡ true) is h
 
-  pub view_unbuilt : (x : Statement) (name : NameAt) (q : Query) → x ≡ statement.View name q → built s (statement_tree names x) ≡ true → ⊥
+  pub view_built : (x : Statement) (name : NameAt) (q : Query) → x ≡ statement.View name q → built s (statement_tree names x) ≡ true → built s (query_tree names q) ≡ true
   unfolding built
-  view_unbuilt x name q is h = let f : false ≡ true = subst (λ y. built s (statement_tree names y) ≡ true) is h in absurd (cc)
+  view_built x name q is h = subst (λ y. built s (statement_tree names y) ≡ true) is h
 
 one_of : {X : Type 0} (p : X → Bool) (xs : List X) (i : ℕ) (x : X) → slice_get xs i ≡ Some x → list_all p xs ≡ true → p x ≡ true
 one_of p [] i x at h = cc

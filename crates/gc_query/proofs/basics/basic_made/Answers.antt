@@ -5,7 +5,7 @@ use Rattle.gc_expr.specs.Views.{Names}
 use Rattle.gc_base.specs.declared.place.Sym.{Sym}
 use Rattle.gc_build_reading.specs.Recipes.{recipe_of}
 use Rattle.gc_lower.specs.Scopes.{Scope}
-use Rattle.gc_query.specs.Answered.{Rises, names_in, scope_in, standing_in}
+use Rattle.gc_query.specs.Answered.{Rises, names_in, scope_in}
 use Rattle.gc_query.specs.Built.{no_walks}
 use Rattle.gc_query.proofs.BasicsMade.{basic_is, rises}
 use Rattle.gc_query.proofs.basics.basic_made.Goals as goal
@@ -20,6 +20,6 @@ pub returns-clause-due : goal.returns-clause-due
 returns-clause-due g c =
     let s : Scope = scope_in c.args.session.now in
     let names : Names = names_in c.args.session.now in
-    basic_is s names (standing_in c.args.session.now c.args.next) c.args.basic.now c.in_ok-lowered.lowered.block c.in_ok-lowered.ensures.is_block c.in_ok-table.table c.in_ok-table.ensures
+    basic_is s names (record { graphs = c.args.graphs.now; next = c.args.next }) c.args.basic.now c.in_ok-lowered.lowered.block c.in_ok-lowered.ensures.is_block c.in_ok-table.table c.in_ok-table.ensures
     c.in_ok-recipe.recipe
     (c.in_ok-recipe.ensures ∙ ap (λ (bound : List Sym). recipe_of s bound (basic_tree names c.args.basic.now)) (c.as_slice-bound.ensures ∙ c.schema.ensures)) c.construct.result c.construct.ensures c.made_of.result c.made_of.ensures

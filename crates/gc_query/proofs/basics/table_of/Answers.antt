@@ -11,4 +11,4 @@ run-requires g c = subst (Runs (block_tree c.args.block.now)) (sym c.in_ok-plan.
 
 pub returns : goal.returns
 returns g c =
-    if_ok _ _ (λ table t. table_is c.args.session.now.graphs.now (block_tree c.args.block.now) _ _ table c.in_ok-plan.ensures c.empty-given.ensures c.the_plan_of_a_block_means_it.ensures t) c.run.result c.run.ensures
+    if_ok _ _ (λ table t. table_is c.args.graphs.now (block_tree c.args.block.now) _ _ table c.in_ok-plan.ensures c.empty-given.ensures c.the_plan_of_a_block_means_it.ensures t) c.run.result c.run.ensures
