@@ -19,7 +19,7 @@ use gc_build_numbers::Setting;
 use gc_build_reading::recipe;
 use gc_exec::run;
 use gc_lower::lower_match;
-use gc_plan::{plan, the_plan_of_a_block_means_it};
+use gc_plan::plan;
 use gc_rows::{Row, Table};
 use std::sync::ledger::Ledger;
 
@@ -58,7 +58,6 @@ fn table_of<L: Ledger>(
     requires { no_walks (block_tree block.now) ≡ true }
     ensures { IfOk result (IsTableOfBlock (setting session.now.graphs.now (block_tree block.now) [])) }
 {
-    the_plan_of_a_block_means_it();
     let plan = plan(session.alloc, block)?;
     let given = Row::empty(session.alloc);
     run(session.alloc, &plan, block, session.graphs, &given, steps)
