@@ -4,5 +4,6 @@ pub mod JoinLaws
 pub mod Own
 pub mod PlanLaw
 pub mod Restrictions
+pub mod SameRows
 pub mod Schemas
 pub mod TextOrder

@@ -3,6 +3,7 @@ pub mod FirstWalks
 pub mod Instances
 pub mod Joins
 pub mod Matches
+pub mod Mentions
 pub mod Networks
 pub mod Plans
 pub mod RegexCodes

@@ -9,15 +9,18 @@ mod block;
 mod build;
 mod expression;
 mod laws;
+mod mentioning;
 mod plan;
 mod relation;
 mod text;
+mod variables;
 
 pub use atom::{Atom, AtomList, AtomWhat, ViewUse, ViewUseList};
 pub use block::{Block, Conjunct, ConjunctList, ExistsBlock, ExistsList, Part, PartList};
 pub use expression::PathExpression;
 pub use laws::{
-    plans_that_mean_their_blocks_answer_as_they_do, the_tree_in_text_order_means_its_block,
+    a_conjunct_hangs_on_the_variables_in_it, plans_that_mean_their_blocks_answer_as_they_do,
+    the_tree_in_text_order_means_its_block,
 };
 pub use plan::{Phys, PhysList};
 pub use relation::Rel;

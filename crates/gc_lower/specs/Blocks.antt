@@ -8,25 +8,16 @@ use Rattle.gc_ast.specs.Trees as tree
 use Rattle.gc_ast.specs.Trees.{AQuery, ATerm, AFormula, ABasic, AnOptional, APattern}
 use Rattle.gc_alg.specs.Instances.{variables_of}
 use Rattle.gc_alg.specs.Matches.{text_tree}
+use Rattle.gc_alg.specs.Mentions.{in_conjunct}
 use Rattle.gc_alg.specs.Trees.{Tree, ABlock, APart, AConjunct, AnExists, RowOf, BlockOf, PartOf, ConjunctOf, ExistsOf, none, more, row}
 use Rattle.gc_alg.specs.declared.atom.Atom.{Atom}
 use Rattle.gc_lower.specs.Chains.{atoms_of, view_atoms}
-use Rattle.gc_lower.specs.Conditions.{and_parts, dealt, mentions}
+use Rattle.gc_lower.specs.Conditions.{and_parts, dealt}
 use Rattle.gc_lower.specs.Reads.{reads_of, seen}
 use Rattle.gc_lower.specs.Scopes.{Scope, variable_of}
 use Rattle.gc_expr.specs.Trees.{renamed}
 
--- whether a variable occurs in a block: in an atom, in a condition, or as an outer one in an EXISTS query
-abbrev pub in_query : Sym → Tree AnExists → Bool
-in_query x (ExistsOf outer block text) = lists outer x
-
-abbrev pub in_queries : Sym → Tree (RowOf AnExists) → Bool
-in_queries x none = false
-in_queries x (more query later) = in_query x query || in_queries x later
-
-abbrev pub in_conjunct : Sym → Tree AConjunct → Bool
-in_conjunct x (ConjunctOf condition queries) = mentions x condition || in_queries x queries
-
+-- whether a variable occurs in a block: in an atom or in a conjunct
 abbrev pub in_conjuncts : Sym → Tree (RowOf AConjunct) → Bool
 in_conjuncts x none = false
 in_conjuncts x (more conjunct later) = in_conjunct x conjunct || in_conjuncts x later

@@ -1,5 +1,5 @@
--- The conjuncts of a condition and what occurs in them.
-use Rattle.std.specs.Prelude.{ℕ, ◌+◌, ◌-◌, ◌==◌, Bool, false, ◌||◌, List, [], ◌∷◌, take, drop}
+-- The conjuncts of a condition.
+use Rattle.std.specs.Prelude.{ℕ, ◌+◌, ◌-◌, List, [], ◌∷◌, take, drop}
 use Rattle.gc_base.specs.declared.place.Sym.{Sym}
 use Rattle.gc_expr.specs.Trees.{Kind, TreeOf, AnExpr, RowOf, At, Number, Text, Truth, Var, Property, Labelled, NodeAt, EdgeAt, Length}
 use Rattle.gc_expr.specs.Trees.{Aggregate, Negate, Sum, Product, Compare, Not, And, Or, Exists, SumPart, ProductPart, none, more, renamed}
@@ -66,32 +66,6 @@ counted_from before (SumPart minus e) = SumPart minus (counted_from before e)
 counted_from before (ProductPart op e) = ProductPart op (counted_from before e)
 counted_from before none = none
 counted_from before (more e es) = more (counted_from before e) (counted_from before es)
-
--- whether a variable occurs in an expression
-unfoldable pub mentions : {k : Kind} → Sym → TreeOf Sym k → Bool
-mentions x (At token node) = mentions x node
-mentions x (Number n) = false
-mentions x (Text t) = false
-mentions x (Truth b) = false
-mentions x (Var y) = y.0 == x.0
-mentions x (Property e k) = mentions x e
-mentions x (Labelled e l) = mentions x e
-mentions x (NodeAt p i) = p.0 == x.0 || mentions x i
-mentions x (EdgeAt p i) = p.0 == x.0 || mentions x i
-mentions x (Length p) = p.0 == x.0
-mentions x (Aggregate fold operand) = mentions x operand
-mentions x (Negate e) = mentions x e
-mentions x (Sum e parts) = mentions x e || mentions x parts
-mentions x (Product e parts) = mentions x e || mentions x parts
-mentions x (Compare how a b) = mentions x a || mentions x b
-mentions x (Not e) = mentions x e
-mentions x (And parts) = mentions x parts
-mentions x (Or parts) = mentions x parts
-mentions x (Exists i) = false
-mentions x (SumPart minus e) = mentions x e
-mentions x (ProductPart op e) = mentions x e
-mentions x none = false
-mentions x (more e es) = mentions x e || mentions x es
 
 -- conjuncts, to which EXISTS queries are dealt out in order: each has those of its own EXISTS, which are numbered from 0 in it
 abbrev pub dealt : (before : ℕ) → List (TreeOf Sym AnExpr) → List (Tree AnExists) → List (Tree AConjunct)

@@ -9,7 +9,6 @@ mod conjuncts;
 mod counting;
 mod elements;
 mod lowering;
-mod mentioning;
 mod naming;
 mod occurring;
 mod paths;

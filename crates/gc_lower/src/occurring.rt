@@ -2,12 +2,11 @@ ghost use Rattle.std.specs.Prelude.{◌≡◌, ◌∷◌, [], ◌||◌, map, IfO
 ghost use Rattle.std.specs.List.{list_any};
 ghost use Rattle.gc_alg.specs.Instances.{listed};
 ghost use Rattle.gc_alg.specs.Trees.{row};
-ghost use Rattle.gc_alg.specs.Views.{block_tree, conjunct_tree, exists_tree, part_tree};
+ghost use Rattle.gc_alg.specs.Views.{block_tree, conjunct_tree, part_tree};
 ghost use Rattle.gc_rows.specs.Rows.{lists};
-ghost use Rattle.gc_lower.specs.Blocks.{in_atom, in_conjunct, in_conjuncts, in_part, in_parts, in_query, in_queries, occurs_in, outer_of};
+ghost use Rattle.gc_lower.specs.Blocks.{in_atom, in_conjuncts, in_part, in_parts, occurs_in, outer_of};
 
-use crate::mentioning::mentions;
-use gc_alg::{Atom, AtomWhat, Block, Conjunct, ExistsBlock, Part};
+use gc_alg::{Atom, AtomWhat, Block, Conjunct, Part};
 use gc_base::{Memory, Sequence, Sym};
 use gc_rows::{SymList, each_once, is_listed};
 use gc_values::ReadUse;
@@ -68,36 +67,11 @@ fn in_conjuncts(conjuncts: &[Conjunct], var: Sym) -> bool
     ensures { result ≡ in_conjuncts var (row (map conjunct_tree conjuncts.now)) }
 {
     for conjunct in conjuncts {
-        if in_conjunct(conjunct, var) {
+        if conjunct.mentions(var) {
             return true;
         }
     }
     false
-}
-
-#[tactic(auto, using(gc_alg::proofs::Layers::conjunct_is))]
-fn in_conjunct(conjunct: &Conjunct, var: Sym) -> bool
-    ensures { result ≡ in_conjunct var (conjunct_tree conjunct.now) }
-{
-    mentions(&conjunct.condition, var) || in_queries(&conjunct.subqueries, var)
-}
-
-fn in_queries(queries: &[ExistsBlock], var: Sym) -> bool
-    ensures { result ≡ in_queries var (row (map exists_tree queries.now)) }
-{
-    for query in queries {
-        if in_query(query, var) {
-            return true;
-        }
-    }
-    false
-}
-
-#[tactic(auto, using(gc_alg::proofs::Layers::exists_is))]
-fn in_query(query: &ExistsBlock, var: Sym) -> bool
-    ensures { result ≡ in_query var (exists_tree query.now) }
-{
-    is_listed(query.outer.as_slice(), var)
 }
 
 fn in_atoms(atoms: &[Atom], var: Sym) -> bool

@@ -21,7 +21,6 @@ use Rattle.gc_expr.specs.Views.{Names}
 use Rattle.gc_lower.specs.Blocks.{block_of}
 use Rattle.gc_lower.specs.Scopes.{Scope}
 use Rattle.gc_lower.proofs.TreeParts.{basic_parts}
-use Rattle.gc_plan.specs.TextPlans.{plan_of}
 use Rattle.gc_rows.specs.Tables.{Relation}
 use Rattle.gc_rows.specs.declared.row.Binding.{Binding}
 use Rattle.gc_spec.specs.PropertyGraph.{PropertyGraph}
@@ -35,22 +34,19 @@ use Rattle.gc_query.specs.declared.fault.QueryRefusal.{QueryRefusal}
 use Rattle.gc_query.proofs.Outcomes.{passes_on}
 
 module _ (graphs : List PropertyGraph) (block : Tree ABlock) where
-  of_block : (p : PlanTree) (table : Relation) → p ≡ plan_of block → Means (without_segments graphs) block (plan_of block)
-      → IsTableOfPlan (setting graphs block []) p table → IsTableOfBlock (setting graphs block []) table
-  of_block p table same means t =
-      let alike : Means (without_segments graphs) block p = subst (Means (without_segments graphs) block) (sym same) means in
+  -- the table of a plan that means a block, for nothing given, is the table of the block
+  of_block : (p : PlanTree) (table : Relation) → Means (without_segments graphs) block p → IsTableOfPlan (setting graphs block []) p table → IsTableOfBlock (setting graphs block []) table
+  of_block p table means t =
       record {
         over = t.over;
         rows = t.rows;
-        sound = λ row m. (alike [] tt row).0 (t.sound row m);
-        complete = λ row h. t.complete row ((alike [] tt row).1 h);
+        sound = λ row m. (means [] tt row).0 (t.sound row m);
+        complete = λ row h. t.complete row ((means [] tt row).1 h);
       }
 
-  -- the table of the plan of a block, for nothing given, is the table of the block
-  pub table_is : (p : PlanTree) (given : List Binding) (table : Relation) → p ≡ plan_of block → given ≡ [] → ((db : Database) (block : Tree ABlock) → Means db block (plan_of block))
+  pub table_is : (p : PlanTree) (given : List Binding) (table : Relation) → ((db : Database) → Means db block p) → given ≡ []
       → IsTableOfPlan (setting graphs block given) p table → IsTableOfBlock (setting graphs block []) table
-  table_is p given table same none means t =
-      of_block p table same (means (without_segments graphs) block) (subst (λ row. IsTableOfPlan (setting graphs block row) p table) none t)
+  table_is p given table means none t = of_block p table (means (without_segments graphs)) (subst (λ row. IsTableOfPlan (setting graphs block row) p table) none t)
 
 -- what a CONSTRUCT on a table comes to is an outcome of the query
 pub comes : (s : Setting) (r : Recipe) (next token : ℕ) (outcome : Result (Option Built) Refusal) → Constructs s r next outcome → IsAnswered (ComesTo s r next token) (outcome_of token outcome)

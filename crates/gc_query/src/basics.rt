@@ -19,7 +19,7 @@ use gc_build_numbers::Setting;
 use gc_build_reading::recipe;
 use gc_exec::run;
 use gc_lower::lower_match;
-use gc_plan::{plan, the_plan_of_a_block_means_it};
+use gc_plan::plan;
 use gc_ppg::GraphList;
 use gc_rows::{Row, Table};
 use std::alloc::Global;
@@ -62,7 +62,6 @@ fn table_of<L: Ledger>(
     requires { no_walks (block_tree block.now) ≡ true }
     ensures { IfOk result (IsTableOfBlock (setting graphs.now (block_tree block.now) [])) }
 {
-    the_plan_of_a_block_means_it();
     let plan = plan(alloc, block)?;
     let given = Row::empty(alloc);
     run(alloc, &plan, block, graphs, &given, steps)

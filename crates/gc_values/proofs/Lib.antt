@@ -1,3 +1,4 @@
 pub mod Chains
 pub mod KleeneLaws
 pub mod PathEnds
+pub mod SameRows

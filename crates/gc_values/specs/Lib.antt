@@ -5,4 +5,5 @@ pub mod Descriptions
 pub mod ExprTruths
 pub mod ExprValues
 pub mod Kleene
+pub mod Mentions
 pub mod PathParts

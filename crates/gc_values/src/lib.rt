@@ -1,7 +1,8 @@
 //! Values and truths of expressions. Others rely on two calls: `value` gives the value of an
 //! expression on a row, and `truth` the three-valued truth of a condition, each exactly as the
-//! definitions say. This crate knows of no query, no token and no group: the values of aggregates
-//! and the answers to EXISTS queries are handed in.
+//! definitions say; and on the law that rows which agree on the variables in a condition give it one
+//! truth. `mentions` tells which these are. This crate knows of no query, no token and no group: the
+//! values of aggregates and the answers to EXISTS queries are handed in.
 #![tactic(auto)]
 
 mod along;
@@ -10,6 +11,8 @@ mod context;
 mod described;
 mod folded;
 mod graphs;
+mod laws;
+mod mentioning;
 mod numbers;
 mod reads;
 mod truth3;
@@ -18,6 +21,8 @@ mod val;
 mod values;
 
 pub use graphs::{own_graph, walk_graph};
+pub use laws::the_truth_of_a_condition_hangs_on_the_variables_in_it;
+pub use mentioning::mentions;
 pub use reads::{Made, MadeList, ReadUse, Reads};
 pub use truth3::Truth3;
 pub use truths::truth;

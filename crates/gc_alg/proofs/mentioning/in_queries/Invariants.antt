@@ -1,8 +1,8 @@
 use Rattle.std.proofs.Common.{◌≡◌, drop, map}
 use Rattle.gc_alg.specs.Trees.{row}
 use Rattle.gc_alg.specs.Views.{exists_tree}
-use Rattle.gc_lower.specs.Blocks.{in_queries}
-use Rattle.gc_lower.proofs.occurring.in_queries.Given as goal
+use Rattle.gc_alg.specs.Mentions.{in_queries}
+use Rattle.gc_alg.proofs.mentioning.in_queries.Given as goal
 
 -- it occurs in all where it occurs in the rest
 abbrev pub invariant-loop-query : goal.invariant-loop-query

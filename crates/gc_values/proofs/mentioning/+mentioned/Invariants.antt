@@ -1,8 +1,8 @@
 use Rattle.std.proofs.Common.{◌≡◌, drop, map}
 use Rattle.gc_expr.specs.Trees.{row}
 use Rattle.gc_expr.specs.Views.{numbered_expr, numbered_sum_part, numbered_product_part}
-use Rattle.gc_lower.specs.Conditions.{mentions}
-use Rattle.gc_lower.proofs.mentioning.+mentioned.Given as goal
+use Rattle.gc_values.specs.Mentions.{mentions}
+use Rattle.gc_values.proofs.mentioning.+mentioned.Given as goal
 
 -- it occurs in all where it occurs in the rest
 abbrev pub invariant-in_parts-loop-part : goal.invariant-in_parts-loop-part

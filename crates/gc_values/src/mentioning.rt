@@ -1,21 +1,21 @@
 ghost use Rattle.std.specs.Prelude.{◌≡◌, map};
 ghost use Rattle.gc_expr.specs.Trees.{row};
 ghost use Rattle.gc_expr.specs.Views.{numbered_expr, numbered_node, numbered_sum_part, numbered_product_part};
-ghost use Rattle.gc_lower.specs.Conditions.{mentions};
+ghost use Rattle.gc_values.specs.Mentions.{mentions};
 
 use gc_base::Sym;
 use gc_expr::{Expr, ExprNode, ProductPart, SumPart};
 
 /// Whether a variable occurs in an expression.
-#[tactic(auto, unfolding(crate::specs::Conditions::mentions, gc_expr::specs::Views::numbered_expr, gc_expr::specs::Views::numbered_node))]
+#[tactic(auto, unfolding(crate::specs::Mentions::mentions, gc_expr::specs::Views::numbered_expr, gc_expr::specs::Views::numbered_node))]
 #[cycle(mentioned)]
-pub(crate) fn mentions(expr: &Expr, var: Sym) -> bool
+pub fn mentions(expr: &Expr, var: Sym) -> bool
     ensures { result ≡ mentions var (numbered_expr expr.now) }
 {
     in_node(&expr.node, var)
 }
 
-#[tactic(auto, unfolding(crate::specs::Conditions::mentions, gc_expr::specs::Views::numbered_expr, gc_expr::specs::Views::numbered_node, gc_expr::specs::Views::numbered_sum_part, gc_expr::specs::Views::numbered_product_part))]
+#[tactic(auto, unfolding(crate::specs::Mentions::mentions, gc_expr::specs::Views::numbered_expr, gc_expr::specs::Views::numbered_node, gc_expr::specs::Views::numbered_sum_part, gc_expr::specs::Views::numbered_product_part))]
 #[cycle(mentioned)]
 fn in_node(node: &ExprNode, var: Sym) -> bool
     ensures { result ≡ mentions var (numbered_node node.now) }
@@ -45,7 +45,7 @@ fn in_node(node: &ExprNode, var: Sym) -> bool
     }
 }
 
-#[tactic(auto, unfolding(crate::specs::Conditions::mentions))]
+#[tactic(auto, unfolding(crate::specs::Mentions::mentions))]
 #[cycle(mentioned)]
 fn in_parts(parts: &[Expr], var: Sym) -> bool
     ensures { result ≡ mentions var (row (map numbered_expr parts.now)) }
@@ -58,7 +58,7 @@ fn in_parts(parts: &[Expr], var: Sym) -> bool
     false
 }
 
-#[tactic(auto, unfolding(crate::specs::Conditions::mentions, gc_expr::specs::Views::numbered_expr, gc_expr::specs::Views::numbered_sum_part))]
+#[tactic(auto, unfolding(crate::specs::Mentions::mentions, gc_expr::specs::Views::numbered_expr, gc_expr::specs::Views::numbered_sum_part))]
 #[cycle(mentioned)]
 fn in_sum(parts: &[SumPart], var: Sym) -> bool
     ensures { result ≡ mentions var (row (map numbered_sum_part parts.now)) }
@@ -71,7 +71,7 @@ fn in_sum(parts: &[SumPart], var: Sym) -> bool
     false
 }
 
-#[tactic(auto, unfolding(crate::specs::Conditions::mentions, gc_expr::specs::Views::numbered_expr, gc_expr::specs::Views::numbered_product_part))]
+#[tactic(auto, unfolding(crate::specs::Mentions::mentions, gc_expr::specs::Views::numbered_expr, gc_expr::specs::Views::numbered_product_part))]
 #[cycle(mentioned)]
 fn in_product(parts: &[ProductPart], var: Sym) -> bool
     ensures { result ≡ mentions var (row (map numbered_product_part parts.now)) }
