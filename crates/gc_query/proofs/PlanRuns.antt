@@ -1,4 +1,4 @@
--- The plan of a block that looks for no walk runs.
+-- The plan of a block that binds no walks runs.
 use Rattle.std.proofs.Common.{◌≡◌, ◌&&◌, ℕ, zero, suc, ◌+◌, Bool, true, false, List, [], ◌∷◌, length, Some, refl, sym, ap, ◌∙◌, subst, arith, slice_get}
 use Rattle.std.specs.Prelude.{⊤}
 use Rattle.std.specs.List.{list_all}
@@ -9,9 +9,9 @@ use Rattle.gc_alg.specs.Trees.{Kind, Tree, ABlock, APart, AConjunct, AnExists, R
 use Rattle.gc_alg.specs.declared.atom.Atom.{Atom}
 use Rattle.gc_alg.specs.declared.atom.AtomWhat.{AtomWhat}
 use Rattle.gc_alg.specs.declared.atom.AtomWhat.TheVariants as atom
-use Rattle.gc_exec.specs.Runs.{AsksNoWalk, EachRuns, NamesNoWalk, Runs, queries_of}
+use Rattle.gc_exec.specs.Runs.{FindsNoWalk, EachRuns, NamesNoFound, Runs, queries_of}
 use Rattle.gc_plan.specs.TextPlans.{atoms_plan, plan_of, plan_of_part, plan_of_parts, plans_of, plans_of_conjunct, with_conjuncts, with_later}
-use Rattle.gc_query.specs.Built.{asks_no_walk, no_walks}
+use Rattle.gc_query.specs.Built.{binds_no_walk, no_walks}
 
 left : (a b : Bool) → (a && b) ≡ true → a ≡ true
 left true b h = refl
@@ -21,22 +21,22 @@ right : (a b : Bool) → (a && b) ≡ true → b ≡ true
 right true b h = h
 right false b h = cc
 
-no_walk : (what : AtomWhat) → asks_no_walk what ≡ true → AsksNoWalk what
+no_walk : (what : AtomWhat) → binds_no_walk what ≡ true → FindsNoWalk what
 no_walk (atom.Node x labels) h = tt
 no_walk (atom.Edge x e y way labels) h = tt
 no_walk (atom.Property x kind name v) h = tt
 no_walk (atom.Stored x p y labels) h = tt
-no_walk (atom.Reach x y regex views) h = cc
+no_walk (atom.Reach x y regex views) h = h
 no_walk (atom.Found x p y k cost regex views) h = cc
 no_walk (atom.All x p y regex views) h = cc
 
--- each atom of a list that looks for no walk, if it is there
-none_walks : (atoms : List Atom) → list_all (λ a. asks_no_walk a.what) atoms ≡ true → (n : ℕ) → NamesNoWalk (slice_get atoms n)
+-- each atom of a list that binds no walks, if it is there
+none_walks : (atoms : List Atom) → list_all (λ a. binds_no_walk a.what) atoms ≡ true → (n : ℕ) → NamesNoFound (slice_get atoms n)
 none_walks [] h n = tt
-none_walks (a ∷ atoms) h zero = no_walk a.what (left (asks_no_walk a.what) (list_all (λ b. asks_no_walk b.what) atoms) h)
-none_walks (a ∷ atoms) h (suc n) = none_walks atoms (right (asks_no_walk a.what) (list_all (λ b. asks_no_walk b.what) atoms) h) n
+none_walks (a ∷ atoms) h zero = no_walk a.what (left (binds_no_walk a.what) (list_all (λ b. binds_no_walk b.what) atoms) h)
+none_walks (a ∷ atoms) h (suc n) = none_walks atoms (right (binds_no_walk a.what) (list_all (λ b. binds_no_walk b.what) atoms) h) n
 
--- the plan of each EXISTS block in a tree runs, where the tree looks for no walk
+-- the plan of each EXISTS block in a tree runs, where the tree binds no walks
 unfoldable InnerRun : {k : Kind} → Tree k → Type 0
 InnerRun (BlockOf parts reads) = InnerRun parts
 InnerRun (PartOf atoms conjuncts) = InnerRun conjuncts
@@ -56,7 +56,7 @@ unfolding InnerRun plan_of no_walks
 conjunct_runs (ConjunctOf condition queries) m h = each_runs queries m h
 
 module _ (block : Tree ABlock) where
-  atoms_run : (number : ℕ) → ((n : ℕ) → NamesNoWalk (atom_at block number n)) → (n : ℕ) → Runs block (atoms_plan number n)
+  atoms_run : (number : ℕ) → ((n : ℕ) → NamesNoFound (atom_at block number n)) → (n : ℕ) → Runs block (atoms_plan number n)
   unfolding Runs
   atoms_run number h zero = tt
   atoms_run number h (suc n) = (h n, atoms_run number h n)
@@ -74,11 +74,11 @@ module _ (block : Tree ABlock) where
   part_runs : (number : ℕ) (part : Tree APart) → part_at block number ≡ Some part → InnerRun part → no_walks part ≡ true → Runs block (plan_of_part number part)
   unfolding InnerRun plan_of no_walks
   part_runs number (PartOf atoms cs) at m h =
-      let plain = left (list_all (λ a. asks_no_walk a.what) atoms) (no_walks cs) h in
+      let plain = left (list_all (λ a. binds_no_walk a.what) atoms) (no_walks cs) h in
       conjuncts_run number cs 0 (atoms_plan number (length atoms))
       (λ j. let e : 0 + j ≡ j = omega arith in ap (conjunct_at block number) e ∙ ap (option_and_then (λ (p : Tree APart). slice_get (items (conjuncts_of p)) j)) at)
-      m (right (list_all (λ a. asks_no_walk a.what) atoms) (no_walks cs) h)
-      (atoms_run number (λ n. subst NamesNoWalk (sym (ap (option_and_then (λ (p : Tree APart). slice_get (atoms_of p) n)) at)) (none_walks atoms plain n)) (length atoms))
+      m (right (list_all (λ a. binds_no_walk a.what) atoms) (no_walks cs) h)
+      (atoms_run number (λ n. subst NamesNoFound (sym (ap (option_and_then (λ (p : Tree APart). slice_get (atoms_of p) n)) at)) (none_walks atoms plain n)) (length atoms))
 
   rest_runs : (later : Tree (RowOf APart)) (number : ℕ) (p : PlanTree) → ((k : ℕ) → part_at block (number + k) ≡ slice_get (items later) k)
       → InnerRun later → no_walks later ≡ true → Runs block p → Runs block (with_later number later p)
@@ -110,6 +110,6 @@ all_run (ExistsOf outer block tree) = block_runs block (all_run block)
 all_run none = tt
 all_run (more t ts) = (all_run t, all_run ts)
 
--- the plan of a block that looks for no walk runs
+-- the plan of a block that binds no walks runs
 pub runs : (block : Tree ABlock) → no_walks block ≡ true → Runs block (plan_of block)
 runs block h = block_runs block (all_run block) h
