@@ -9,8 +9,8 @@ use Rattle.gc_alg.specs.declared.atom.Atom.{Atom}
 use Rattle.gc_alg.specs.declared.atom.AtomWhat.{AtomWhat}
 use Rattle.gc_alg.specs.declared.atom.AtomWhat.TheVariants as atom
 use Rattle.gc_values.specs.declared.reads.ReadUse.{ReadUse}
-use Rattle.gc_exec.specs.Runs.{AsksNoWalk, EachRuns, NamesNoWalk, Runs, queries_of}
-use Rattle.gc_query.specs.Built.{asks_no_walk, no_walks}
+use Rattle.gc_exec.specs.Runs.{FindsNoWalk, EachRuns, NamesNoFound, Runs, queries_of}
+use Rattle.gc_query.specs.Built.{binds_no_walk, no_walks}
 
 left : (a b : Bool) → (a && b) ≡ true → a ≡ true
 left true b h = refl
@@ -20,20 +20,20 @@ right : (a b : Bool) → (a && b) ≡ true → b ≡ true
 right true b h = h
 right false b h = cc
 
-no_walk : (what : AtomWhat) → asks_no_walk what ≡ true → AsksNoWalk what
+no_walk : (what : AtomWhat) → binds_no_walk what ≡ true → FindsNoWalk what
 no_walk (atom.Node x labels) h = tt
 no_walk (atom.Edge x e y way labels) h = tt
 no_walk (atom.Property x kind name v) h = tt
 no_walk (atom.Stored x p y labels) h = tt
-no_walk (atom.Reach x y regex views) h = cc
+no_walk (atom.Reach x y regex views) h = h
 no_walk (atom.Found x p y k cost regex views) h = cc
 no_walk (atom.All x p y regex views) h = cc
 
--- each atom of a list that looks for no walk, if it is there
-none_walks : (atoms : List Atom) → list_all (λ a. asks_no_walk a.what) atoms ≡ true → (n : ℕ) → NamesNoWalk (slice_get atoms n)
+-- each atom of a list that binds no walks, if it is there
+none_walks : (atoms : List Atom) → list_all (λ a. binds_no_walk a.what) atoms ≡ true → (n : ℕ) → NamesNoFound (slice_get atoms n)
 none_walks [] h n = tt
-none_walks (a ∷ atoms) h zero = no_walk a.what (left (asks_no_walk a.what) (list_all (λ b. asks_no_walk b.what) atoms) h)
-none_walks (a ∷ atoms) h (suc n) = none_walks atoms (right (asks_no_walk a.what) (list_all (λ b. asks_no_walk b.what) atoms) h) n
+none_walks (a ∷ atoms) h zero = no_walk a.what (left (binds_no_walk a.what) (list_all (λ b. binds_no_walk b.what) atoms) h)
+none_walks (a ∷ atoms) h (suc n) = none_walks atoms (right (binds_no_walk a.what) (list_all (λ b. binds_no_walk b.what) atoms) h) n
 
 -- the EXISTS queries of a conjunct, if it is there, look for none
 abbrev Plain : Option (Tree AConjunct) → Type 0
@@ -47,23 +47,23 @@ plain_at (more (ConjunctOf condition queries) later) h zero = left (no_walks que
 plain_at (more (ConjunctOf condition queries) later) h (suc n) = plain_at later (right (no_walks queries) (no_walks later) h) n
 
 -- each atom of a block, and each conjunct
-atom_plain : (reads : List ReadUse) (parts : Tree (RowOf APart)) → no_walks parts ≡ true → (part n : ℕ) → NamesNoWalk (atom_at (BlockOf parts reads) part n)
+atom_plain : (reads : List ReadUse) (parts : Tree (RowOf APart)) → no_walks parts ≡ true → (part n : ℕ) → NamesNoFound (atom_at (BlockOf parts reads) part n)
 unfolding no_walks items
 atom_plain reads none h part n = tt
 atom_plain reads (more (PartOf atoms cs) later) h zero n =
-    none_walks atoms (left (list_all (λ a. asks_no_walk a.what) atoms) (no_walks cs) (left (list_all (λ a. asks_no_walk a.what) atoms && no_walks cs) (no_walks later) h)) n
+    none_walks atoms (left (list_all (λ a. binds_no_walk a.what) atoms) (no_walks cs) (left (list_all (λ a. binds_no_walk a.what) atoms && no_walks cs) (no_walks later) h)) n
 atom_plain reads (more (PartOf atoms cs) later) h (suc part) n =
-    atom_plain reads later (right (list_all (λ a. asks_no_walk a.what) atoms && no_walks cs) (no_walks later) h) part n
+    atom_plain reads later (right (list_all (λ a. binds_no_walk a.what) atoms && no_walks cs) (no_walks later) h) part n
 
 conjunct_plain : (reads : List ReadUse) (parts : Tree (RowOf APart)) → no_walks parts ≡ true → (part n : ℕ) → Plain (conjunct_at (BlockOf parts reads) part n)
 unfolding no_walks items
 conjunct_plain reads none h part n = tt
 conjunct_plain reads (more (PartOf atoms cs) later) h zero n =
-    plain_at cs (right (list_all (λ a. asks_no_walk a.what) atoms) (no_walks cs) (left (list_all (λ a. asks_no_walk a.what) atoms && no_walks cs) (no_walks later) h)) n
+    plain_at cs (right (list_all (λ a. binds_no_walk a.what) atoms) (no_walks cs) (left (list_all (λ a. binds_no_walk a.what) atoms && no_walks cs) (no_walks later) h)) n
 conjunct_plain reads (more (PartOf atoms cs) later) h (suc part) n =
-    conjunct_plain reads later (right (list_all (λ a. asks_no_walk a.what) atoms && no_walks cs) (no_walks later) h) part n
+    conjunct_plain reads later (right (list_all (λ a. binds_no_walk a.what) atoms && no_walks cs) (no_walks later) h) part n
 
-atom_in_block : (block : Tree ABlock) → no_walks block ≡ true → (part n : ℕ) → NamesNoWalk (atom_at block part n)
+atom_in_block : (block : Tree ABlock) → no_walks block ≡ true → (part n : ℕ) → NamesNoFound (atom_at block part n)
 unfolding no_walks
 atom_in_block (BlockOf parts reads) h part n = atom_plain reads parts h part n
 
