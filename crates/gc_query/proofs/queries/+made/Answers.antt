@@ -1,4 +1,4 @@
-use Rattle.std.proofs.Common.{length, drop, slice_get, Some, ◌≡◌, ◌≤◌, [], Result, Ok, Err, List, map, true, false, rules, sym, ap, ◌∙◌, subst, refl, arith}
+use Rattle.std.proofs.Common.{◌+◌, length, drop, slice_get, Some, ◌≡◌, ◌≤◌, [], Result, Ok, Err, List, map, true, false, rules, sym, ap, ◌∙◌, subst, refl, arith}
 use Rattle.gc_ast.specs.declared.query.Basic.{Basic}
 use Rattle.gc_ast.specs.declared.query.Query.{Query, out-Query}
 use Rattle.gc_ast.specs.declared.construct.Change.{the_lemmas}
@@ -47,7 +47,7 @@ joined-returns-in_err-right-clause-due g t c =
     let left : Made = record { graph = c.left.inside.graph; next = c.left.inside.next } in
     let same : left ≡ c.loop-later.left = c.left.view_is in
     let graphs : List PropertyGraph = c.args.catalog.now.graphs in
-    refused (λ fault. DenotesTerm s (standing_at c.args.catalog.now left.next) (term_tree names c.later-item.result.term) (Err fault)) c.in_err-right.field-0.0 (c.in_err-right.ensures.due)
+    refused (λ fault. DenotesTerm s (standing_at c.loop-later.catalog left.next) (term_tree names c.later-item.result.term) (Err fault)) c.in_err-right.field-0.0 c.in_err-right.ensures.due
     (Joined s graphs c.args.first (tree.row (map (next_term_tree names) c.args.rest.now))) c.from_residual.result c.from_residual.ensures.0 c.from_residual.ensures.1
     (λ fault d. c.loop-later.invariant.leads (Err fault) (subst (λ l. Joined s graphs l (tree.row (map (next_term_tree names) (drop c.loop-later.later-index c.args.rest.now))) (Err fault)) same (term_fails s names graphs c.args.rest.now c.loop-later.later-index c.later-item.result at left fault (subst (λ (n : NamedGraphs). DenotesTerm s (standing_at n left.next) (term_tree names c.later-item.result.term) (Err fault)) c.loop-later.invariant.kept d))))
 
@@ -209,7 +209,7 @@ head_stood-query_made-requires g t c κs within =
     let s : Scope = scope_in c.args.session.now in
     let names : Names = names_in c.args.session.now in
     let e : head_tree names c.args.head.now ≡ tree.GraphHead (named_by (name_of names) c.in-Graph.name) (query_tree names c.in-Graph.query) = rw c.in-Graph.is (search (rules, the_lemmas)) in
-    (rw c.in-Graph.is (search (rules, the_lemmas)), (within, (sym (ap (built s) e) ∙ c.requires.built, (c.requires.later, c.requires.most))))
+    (search (rules, the_lemmas), (within, (sym (ap (built s) e) ∙ c.requires.built, (c.requires.later, c.requires.most))))
 
 pub head_stood-unreachable-requires : goal.head_stood-unreachable-requires
 unfolding built
@@ -228,7 +228,7 @@ head_stood-returns-in_err-made-in-Graph-clause-due g t c =
     let query = query_tree names c.in-Graph.query in
     let e : head_tree names c.args.head.now ≡ tree.GraphHead (named_by (name_of names) c.in-Graph.name) query = rw c.in-Graph.is (search (rules, the_lemmas)) in
     not_stood (λ fault. Denotes s at query (Err fault)) c.in_err-made-in-Graph.field-0.0 c.in_err-made-in-Graph.ensures.due
-    (Heads s at (tree.more (head_tree names c.args.head.now) tree.none)) c.query_made.new.catalog c.from_residual-in_err-made-in-Graph.result c.from_residual-in_err-made-in-Graph.ensures.0 c.from_residual-in_err-made-in-Graph.ensures.1
+    (Heads s at (tree.more (head_tree names c.args.head.now) tree.none)) c.query_made.new.catalog c.from_residual.result c.from_residual.ensures.0 c.from_residual.ensures.1
     (λ fault d. subst (λ t. Heads s at (tree.more t tree.none) (Err fault)) (sym e) (graph_fails s at (named_by (name_of names) c.in-Graph.name) query fault d))
 
 pub head_stood-returns-clause-due : goal.head_stood-returns-clause-due
@@ -237,12 +237,12 @@ head_stood-returns-clause-due g t c =
     let s : Scope = scope_in c.args.session.now in
     let names : Names = names_in c.args.session.now in
     let at : Standing = standing_at c.args.catalog.now c.args.next in
-    let made : Made = c.in_ok-made.made in
+    let made : Made = c.in_ok-made-in-Graph.made in
     let query = query_tree names c.in-Graph.query in
     let e : head_tree names c.args.head.now ≡ tree.GraphHead (named_by (name_of names) c.in-Graph.name) query = rw c.in-Graph.is (search (rules, the_lemmas)) in
-    let same : stood (standing_at c.query_made.new.catalog made.next) made ≡ stood at made = ap (λ (n : NamedGraphs). stood (standing_at n made.next) made) c.in_ok-made.ensures.kept in
+    let same : stood (standing_at c.query_made.new.catalog made.next) made ≡ stood at made = ap (λ (n : NamedGraphs). stood (standing_at n made.next) made) c.in_ok-made-in-Graph.ensures.kept in
     stands_on (Heads s at (tree.more (head_tree names c.args.head.now) tree.none)) (λ under. under ≡ stood (standing_at c.query_made.new.catalog made.next) made) c.stand.new.catalog c.stand.result
-    (λ under is. subst (λ t. Heads s at (tree.more t tree.none) under) (sym e) (names_graph s at (named_by (name_of names) c.in-Graph.name) query made under c.in_ok-made.ensures.due (is ∙ same))) c.stand.ensures.due
+    (λ under is. subst (λ t. Heads s at (tree.more t tree.none) under) (sym e) (names_graph s at (named_by (name_of names) c.in-Graph.name) query made under c.in_ok-made-in-Graph.ensures.due (is ∙ same))) c.stand.ensures.due
 
 pub term_made-basic_made-requires-clause-walks : goal.term_made-basic_made-requires-clause-walks
 term_made-basic_made-requires-clause-walks g t c =

@@ -15,14 +15,23 @@ returns-then-not-branch-clause-due g c =
 
 pub add_unnamed-requires-clause-coherent : goal.add_unnamed-requires-clause-coherent
 add_unnamed-requires-clause-coherent g c =
-    subst (λ (n : NamedGraphs). AllByRecursion (λ h. AreCoherent h c.args.made.graph) n.graphs) (sym c.set_next.ensures)
-    (coherent c.args.catalog.now.graphs c.args.made.next c.args.made (is_true _ c.in_ok-fits.field-0 (fits_beside c.graphs.result.now c.args.catalog.now.graphs c.args.made.next c.args.made c.graphs.ensures.graphs c.in_ok-fits.field-0 c.in_ok-fits.ensures) c.if-not-branch.false))
+    let made : Made = record { graph = c.made.inside.graph; next = c.made.inside.next } in
+    let same : made ≡ c.args.made = c.made.view_is in
+    subst (λ (n : NamedGraphs). AllByRecursion (λ h. AreCoherent h c.made.inside.graph) n.graphs) (sym c.set_next.ensures)
+    (subst (λ (m : Made). AllByRecursion (λ h. AreCoherent h m.graph) c.args.catalog.now.graphs) (sym same)
+    (coherent c.args.catalog.now.graphs c.args.made.next c.args.made (is_true _ c.in_ok-fits.field-0 (fits_beside c.graphs.result.now c.args.catalog.now.graphs c.args.made.next c.args.made c.graphs.ensures.graphs c.in_ok-fits.field-0 c.in_ok-fits.ensures) c.if-not-branch.false)))
 
 pub add_unnamed-requires-clause-below : goal.add_unnamed-requires-clause-below
 add_unnamed-requires-clause-below g c =
-    subst (λ (n : NamedGraphs). AreBelow n.next c.args.made.graph) (sym c.set_next.ensures)
-    (below c.args.catalog.now.graphs c.args.made.next c.args.made (is_true _ c.in_ok-fits.field-0 (fits_beside c.graphs.result.now c.args.catalog.now.graphs c.args.made.next c.args.made c.graphs.ensures.graphs c.in_ok-fits.field-0 c.in_ok-fits.ensures) c.if-not-branch.false))
+    let made : Made = record { graph = c.made.inside.graph; next = c.made.inside.next } in
+    let same : made ≡ c.args.made = c.made.view_is in
+    subst (λ n. AreBelow n c.made.inside.graph) (sym (ap (λ (n : NamedGraphs). n.next) c.set_next.ensures))
+    (subst (λ (m : Made). AreBelow m.next m.graph) (sym same)
+    (below c.args.catalog.now.graphs c.args.made.next c.args.made (is_true _ c.in_ok-fits.field-0 (fits_beside c.graphs.result.now c.args.catalog.now.graphs c.args.made.next c.args.made c.graphs.ensures.graphs c.in_ok-fits.field-0 c.in_ok-fits.ensures) c.if-not-branch.false)))
 
 pub returns-clause-longer : goal.returns-clause-longer
 returns-clause-longer g c =
-    longer_with c.args.catalog.now c.add_unnamed.new.self c.args.made.next c.args.made.graph c.requires.later (c.in_ok-add_unnamed.ensures.added ∙ ap (λ n. with_local n c.args.made.graph) c.set_next.ensures)
+    let made : Made = record { graph = c.made.inside.graph; next = c.made.inside.next } in
+    let same : made ≡ c.args.made = c.made.view_is in
+    longer_with c.args.catalog.now c.add_unnamed.new.self made.next made.graph (subst (λ (m : Made). c.args.catalog.now.next ≤ m.next) (sym same) c.requires.later)
+    (c.in_ok-add_unnamed.ensures.added ∙ ap (λ n. with_local n made.graph) c.set_next.ensures)
