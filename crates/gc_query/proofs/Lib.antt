@@ -1,5 +1,6 @@
 mod BasicsMade
 mod BuiltRests
+mod FreeWords
 mod Heads
 mod OneOutcome
 mod Outcomes

@@ -1,5 +1,5 @@
 -- What stands with a graph more.
-use Rattle.std.proofs.Common.{◌≡◌, ◌≤◌, ℕ, suc, ◌+◌, Bool, true, false, ◌&&◌, nat_le, List, [], ◌∷◌, ◌++◌, length, take, map, drop, Some, Result, Ok, Err, if◌then◌else◌, refl, sym, ap, ◌∙◌, subst, arith, slice_get}
+use Rattle.std.proofs.Common.{◌≡◌, ◌≤◌, ℕ, zero, suc, ◌+◌, Bool, true, false, ◌&&◌, nat_le, List, [], ◌∷◌, ◌++◌, length, take, map, drop, None, Some, Result, Ok, Err, if◌then◌else◌, refl, sym, ap, ◌∙◌, subst, arith, slice_get}
 use Rattle.std.proofs.lemmas.Bool.Decides.{nat_tests}
 use Rattle.std.proofs.lemmas.List.{length-append}
 use Rattle.std.specs.List.{AllByRecursion}
@@ -35,6 +35,10 @@ module _ (graphs : List PropertyGraph) (next : ℕ) (made : Made) (well : fits (
   pub below : AreBelow made.next made.graph
   below = below_above 0 made.next (ids_of made.graph) (up_to (first_free made.graph) made.next (right_of (agrees_with graphs made.graph) (nat_le (first_free made.graph) made.next) well))
 
+-- whether a graph fits beside graphs that were read, as beside those that stand
+pub fits_beside : (read graphs : List PropertyGraph) (next : ℕ) (made : Made) → read ≡ graphs → (told : Bool) → told ≡ fits (record { graphs = read; next = next }) made → told ≡ fits (record { graphs = graphs; next = next }) made
+fits_beside read graphs next made same told is = is ∙ ap (λ (gs : List PropertyGraph). fits (record { graphs = gs; next = next }) made) same
+
 -- what stands with a graph that fits, and with one that does not
 abbrev stands_if : Standing → Made → Bool → Result Standing Fault
 stands_if at made t = if t then Ok (with_made at made) else Err NoGraph
@@ -61,38 +65,47 @@ take_fewer (suc m) (suc n) (x ∷ xs) h = ap (λ zs. x ∷ zs) (take_fewer m n x
 
 -- a catalog is as long as itself; a later next identity, and a graph behind the others, make it longer
 pub as_long : (c : NamedGraphs) → IsLonger c c
-as_long c = record { names = refl; graphs = take_same c.graphs; count = omega arith; later = omega arith }
+as_long c = record { names = take_same c.names; graphs = take_same c.graphs; named = omega arith; count = omega arith; later = omega arith }
 
 pub longer_by : (before after : NamedGraphs) (next : ℕ) → before.next ≤ next → after ≡ record before { next = next } → IsLonger before after
 longer_by before after next h same =
-    subst (IsLonger before) (sym same) (record { names = refl; graphs = take_same before.graphs; count = omega arith; later = h })
+    subst (IsLonger before) (sym same) (record { names = take_same before.names; graphs = take_same before.graphs; named = omega arith; count = omega arith; later = h })
 
 pub longer_with : (before after : NamedGraphs) (next : ℕ) (g : PropertyGraph) → before.next ≤ next → after ≡ with_local (record before { next = next }) g → IsLonger before after
 longer_with before after next g h same =
-    subst (IsLonger before) (sym same)
-    (record { names = refl; graphs = take_all before.graphs (g ∷ []); count = omega (arith, length-append before.graphs (g ∷ [])); later = h })
+    subst (IsLonger before) (sym same) (record {
+      names = take_all before.names (None ∷ []);
+      graphs = take_all before.graphs (g ∷ []);
+      named = omega (arith, length-append before.names (None ∷ []));
+      count = omega (arith, length-append before.graphs (g ∷ []));
+      later = h;
+    })
 
 pub longer_yet : (a b c : NamedGraphs) → IsLonger a b → IsLonger b c → IsLonger a c
 longer_yet a b c h k =
     record {
-      names = k.names ∙ h.names;
+      names = sym (take_fewer (length a.names) (length b.names) c.names h.named) ∙ (ap (take (length a.names)) k.names ∙ h.names);
       graphs = sym (take_fewer (length a.graphs) (length b.graphs) c.graphs h.count) ∙ (ap (take (length a.graphs)) k.graphs ∙ h.graphs);
+      named = omega (arith, h.named, k.named);
       count = omega (arith, h.count, k.count);
       later = omega (arith, h.later, k.later);
     }
 
 -- the first graphs of a longer catalog are the catalog, with the next identity that it had
-take_past : {X : Type 0} (n : ℕ) (xs : List X) → length xs ≤ n → take n xs ≡ xs
-take_past zero [] h = refl
-take_past zero (x ∷ xs) h = absurd (omega (arith, h))
-take_past (suc n) [] h = refl
-take_past (suc n) (x ∷ xs) h = ap (λ zs. x ∷ zs) (take_past n xs (omega (arith, h)))
+module _ (before after : NamedGraphs) (count next : ℕ) (many : count ≡ length before.graphs) (free : next ≡ before.next) (h : IsLonger before after) where
+  pub there_again : count ≤ length after.graphs
+  there_again = subst (λ n. n ≤ length after.graphs) (sym many) h.count
 
-pub first_again : (before after : NamedGraphs) → length before.names ≤ length before.graphs → IsLonger before after → first_graphs after (length before.graphs) before.next ≡ before
-first_again before after most h =
-    let names : take (length before.graphs) after.names ≡ before.names = ap (take (length before.graphs)) h.names ∙ take_past (length before.graphs) before.names most in
-    let graphs : take (length before.graphs) after.graphs ≡ before.graphs = h.graphs in
-    λ i. record { names = names i; graphs = graphs i; next = before.next }
+  pub below_again : AllByRecursion (AreBelow before.next) before.graphs → AllByRecursion (AreBelow next) (take count after.graphs)
+  below_again below =
+      subst (λ n. AllByRecursion (AreBelow n) (take count after.graphs)) (sym free)
+      (subst (λ graphs. AllByRecursion (AreBelow before.next) graphs) (sym (ap (λ n. take n after.graphs) many ∙ h.graphs)) below)
+
+  pub first_again : length before.names ≡ length before.graphs → first_graphs after count next ≡ before
+  first_again alike =
+      let names : take count after.names ≡ before.names = ap (λ n. take n after.names) (many ∙ sym alike) ∙ h.names in
+      let graphs : take count after.graphs ≡ before.graphs = ap (λ n. take n after.graphs) many ∙ h.graphs in
+      λ i. record { names = names i; graphs = graphs i; next = free i }
 
 -- the shapes of some graphs, as they are gathered
 between : {X : Type 0} (xs : List X) (x : X) (ys : List X) → (xs ++ x ∷ []) ++ ys ≡ xs ++ x ∷ ys

@@ -47,10 +47,11 @@ names_in s = s.checked.now.file.names
 abbrev pub standing_at : NamedGraphs → (next : ℕ) → Standing
 standing_at c next = record { graphs = c.graphs; next = next }
 
--- a catalog that was added to: the same graphs, and behind them others without names
+-- a catalog that was added to: the same graphs with the same names, and behind them others
 pub record IsLonger (before after : NamedGraphs) : Type 0 where
-  pub names : after.names ≡ before.names
+  pub names : take (length before.names) after.names ≡ before.names
   pub graphs : take (length before.graphs) after.graphs ≡ before.graphs
+  pub named : length before.names ≤ length after.names
   pub count : length before.graphs ≤ length after.graphs
   pub later : before.next ≤ after.next
 

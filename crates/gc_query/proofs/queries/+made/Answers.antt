@@ -1,26 +1,29 @@
-use Rattle.std.proofs.Common.{drop, slice_get, Some, ◌≡◌, ◌≤◌, [], Result, Ok, Err, List, map, true, rules, sym, ap, ◌∙◌, subst, refl, arith}
+use Rattle.std.proofs.Common.{◌+◌, length, drop, slice_get, Some, ◌≡◌, ◌≤◌, [], Result, Ok, Err, List, map, true, false, rules, sym, ap, ◌∙◌, subst, refl, arith}
 use Rattle.gc_ast.specs.declared.query.Basic.{Basic}
 use Rattle.gc_ast.specs.declared.query.Query.{Query, out-Query}
 use Rattle.gc_ast.specs.declared.construct.Change.{the_lemmas}
 use Rattle.gc_ast.specs.PatternViews.{named_by}
-use Rattle.gc_ast.specs.QueryViews.{basic_tree, next_term_tree, query_tree, term_by, term_tree}
+use Rattle.gc_ast.specs.QueryViews.{basic_tree, head_by, head_tree, next_term_tree, query_by, query_tree, term_by, term_tree}
 use Rattle.gc_ast.specs.Trees as tree
 use Rattle.gc_catalog.specs.NamedGraphs.{NamedGraphs}
 use Rattle.gc_expr.specs.Views.{Names, name_of}
 use Rattle.gc_lower.specs.Blocks.{block_of}
-use Rattle.gc_lower.specs.Scopes.{Scope}
+use Rattle.gc_lower.specs.Scopes.{Scope, number_at}
 use Rattle.gc_spec.specs.PropertyGraph.{PropertyGraph}
-use Rattle.gc_query.specs.Answered.{IsAnswered, names_in, scope_in, standing_at}
+use Rattle.gc_query.specs.Answered.{AreStood, IsAnswered, IsLonger, names_in, scope_in, standing_at}
 use Rattle.gc_query.specs.Basics.{DenotesBasic}
 use Rattle.gc_query.specs.Built.{built, no_walks}
-use Rattle.gc_query.specs.Queries.{Combines, Denotes, DenotesTerm, Joined, named}
+use Rattle.gc_query.specs.Queries.{Combines, Denotes, DenotesTerm, Heads, Joined, named, stood}
 use Rattle.gc_query.specs.Standings.{Made, Standing}
 use Rattle.gc_query.specs.declared.fault.Fault.{Fault}
 use Rattle.gc_query.proofs.BuiltParts.{of_basic, of_inner, of_next}
 use Rattle.gc_query.proofs.BuiltRests.{first_is, heads_are, later_are, next_is, rest_is}
-use Rattle.gc_query.proofs.AllOf.{got}
-use Rattle.gc_query.proofs.Outcomes.{passes_on, refused}
-use Rattle.gc_query.proofs.QueriesWhole.{basic_comes, inner_comes, joining_fails, joins, query_comes, term_fails}
+use Rattle.gc_query.proofs.AllOf.{drop_at, got}
+use Rattle.gc_query.proofs.Heads.{goes_on, graph_fails, head_fails, names_graph}
+use Rattle.gc_query.proofs.Outcomes.{not_stood, passes_on, refused, stands_on}
+use Rattle.gc_query.proofs.QueryParts.{path_head}
+use Rattle.gc_query.proofs.QueriesWhole.{basic_comes, inner_comes, joining_fails, joins, query_comes, term_fails, terms_come}
+use Rattle.gc_query.proofs.Standings.{as_long, below_again, first_again, longer_yet, there_again}
 use Rattle.gc_query.proofs.queries.+made.Goals as goal
 
 pub joined-term_made-requires : goal.joined-term_made-requires
@@ -32,8 +35,8 @@ joined-term_made-requires g t c κs within =
     let same : left ≡ c.loop-later.left = c.left.view_is in
     (search (rules, the_lemmas), (within, (
       sym (of_next s names c.later-item.result) ∙ next_is s (next_term_tree names) c.args.rest.now c.loop-later.later-index c.later-item.result at c.loop-later.invariant.built,
-      omega (arith, c.requires.later, c.loop-later.invariant.later, ap (λ (n : NamedGraphs). n.next) c.loop-later.invariant.kept, ap (λ (m : Made). m.next) same),
-      subst (λ (m : Made). m.next ≤ 9007199254740992) (sym same) c.loop-later.invariant.most,
+      (omega (arith, c.requires.later, c.loop-later.invariant.later, ap (λ (n : NamedGraphs). n.next) c.loop-later.invariant.kept, ap (λ (m : Made). m.next) same),
+      subst (λ (m : Made). m.next ≤ 9007199254740992) (sym same) c.loop-later.invariant.most),
     )))
 
 pub joined-returns-in_err-right-clause-due : goal.joined-returns-in_err-right-clause-due
@@ -44,9 +47,9 @@ joined-returns-in_err-right-clause-due g t c =
     let left : Made = record { graph = c.left.inside.graph; next = c.left.inside.next } in
     let same : left ≡ c.loop-later.left = c.left.view_is in
     let graphs : List PropertyGraph = c.args.catalog.now.graphs in
-    refused (λ fault. DenotesTerm s (standing_at c.args.catalog.now left.next) (term_tree names c.later-item.result.term) (Err fault)) c.in_err-right.field-0.0 (c.in_err-right.ensures.due)
+    refused (λ fault. DenotesTerm s (standing_at c.loop-later.catalog left.next) (term_tree names c.later-item.result.term) (Err fault)) c.in_err-right.field-0.0 c.in_err-right.ensures.due
     (Joined s graphs c.args.first (tree.row (map (next_term_tree names) c.args.rest.now))) c.from_residual.result c.from_residual.ensures.0 c.from_residual.ensures.1
-    (λ fault d. c.loop-later.invariant.leads (Err fault) (subst (λ l. Joined s graphs l (tree.row (map (next_term_tree names) (drop c.loop-later.later-index c.args.rest.now))) (Err fault)) same (term_fails s names graphs c.args.rest.now c.loop-later.later-index c.later-item.result at left fault d)))
+    (λ fault d. c.loop-later.invariant.leads (Err fault) (subst (λ l. Joined s graphs l (tree.row (map (next_term_tree names) (drop c.loop-later.later-index c.args.rest.now))) (Err fault)) same (term_fails s names graphs c.args.rest.now c.loop-later.later-index c.later-item.result at left fault (subst (λ (n : NamedGraphs). DenotesTerm s (standing_at n left.next) (term_tree names c.later-item.result.term) (Err fault)) c.loop-later.invariant.kept d))))
 
 pub joined-returns-in_err-left-clause-due : goal.joined-returns-in_err-left-clause-due
 joined-returns-in_err-left-clause-due g t c =
@@ -59,7 +62,7 @@ joined-returns-in_err-left-clause-due g t c =
     refused (λ fault. Combines c.later-item.result.op left.graph c.in_ok-right.right (Err fault)) c.in_err-left.field-0.0 c.in_err-left.ensures
     (Joined s graphs c.args.first (tree.row (map (next_term_tree names) c.args.rest.now))) c.from_residual-in_err-left.result c.from_residual-in_err-left.ensures.0 c.from_residual-in_err-left.ensures.1
     (λ fault d. c.loop-later.invariant.leads (Err fault)
-    (subst (λ l. Joined s graphs l (tree.row (map (next_term_tree names) (drop c.loop-later.later-index c.args.rest.now))) (Err fault)) same (joining_fails s names graphs c.args.rest.now c.loop-later.later-index c.later-item.result at left c.in_ok-right.right c.in_ok-right.ensures.due fault d)))
+    (subst (λ l. Joined s graphs l (tree.row (map (next_term_tree names) (drop c.loop-later.later-index c.args.rest.now))) (Err fault)) same (joining_fails s names graphs c.args.rest.now c.loop-later.later-index c.later-item.result at left c.in_ok-right.right (subst (λ (n : NamedGraphs). DenotesTerm s (standing_at n left.next) (term_tree names c.later-item.result.term) (Ok c.in_ok-right.right)) c.loop-later.invariant.kept c.in_ok-right.ensures.due) fault d)))
 
 pub joined-loop-later-preserved : goal.joined-loop-later-preserved
 joined-loop-later-preserved g t c =
@@ -77,20 +80,23 @@ joined-loop-later-preserved g t c =
       most = omega (arith, c.in_ok-right.ensures.rises, both.2);
       kept = c.in_ok-right.ensures.kept ∙ inv.kept;
       leads = λ outcome j. inv.leads outcome (subst (λ l. Joined s graphs l (tree.row (map (next_term_tree names) (drop c.loop-later.later-index c.args.rest.now))) outcome) same
-          (joins s names graphs c.args.rest.now c.loop-later.later-index c.later-item.result at left c.in_ok-right.right c.in_ok-right.ensures.due c.in_ok-left.left both outcome j));
+          (joins s names graphs c.args.rest.now c.loop-later.later-index c.later-item.result at left c.in_ok-right.right (subst (λ (n : NamedGraphs). DenotesTerm s (standing_at n left.next) (term_tree names c.later-item.result.term) (Ok c.in_ok-right.right)) c.loop-later.invariant.kept c.in_ok-right.ensures.due) c.in_ok-left.left both outcome j));
     }
 
-pub query_made-query_under-requires : goal.query_made-query_under-requires
-query_made-query_under-requires g t c κs within = (search (rules, the_lemmas), (within, c.requires))
-
 pub query_made-back_to-requires-clause-there : goal.query_made-back_to-requires-clause-there
-query_made-back_to-requires-clause-there g t c = subst (λ n. n ≤ length c.query_under-result.new.catalog.graphs) (sym c.len-graphs.ensures) c.query_under-result.ensures.longer.count
+query_made-back_to-requires-clause-there g t c =
+    there_again c.args.catalog.now c.query_under-result.new.catalog c.len-graphs.result c.next-free.result (c.len-graphs.ensures.count ∙ ap (λ (gs : List PropertyGraph). length gs) c.graphs.ensures.graphs) c.next-free.ensures.next c.query_under-result.ensures.longer
 
 pub query_made-back_to-requires-clause-below : goal.query_made-back_to-requires-clause-below
-query_made-back_to-requires-clause-below g t c = c.next-free.ensures.valid.below
+query_made-back_to-requires-clause-below g t c =
+    below_again c.args.catalog.now c.query_under-result.new.catalog c.len-graphs.result c.next-free.result (c.len-graphs.ensures.count ∙ ap (λ (gs : List PropertyGraph). length gs) c.graphs.ensures.graphs) c.next-free.ensures.next c.query_under-result.ensures.longer
+    c.next-free.ensures.valid.below
 
 pub query_made-returns-clause-kept : goal.query_made-returns-clause-kept
-query_made-returns-clause-kept g t c = first_again c.args.catalog.now c.query_under-result.new.catalog c.next-free.ensures.valid.as_many c.query_under-result.ensures.longer
+query_made-returns-clause-kept g t c =
+    c.back_to.ensures
+    ∙ first_again c.args.catalog.now c.query_under-result.new.catalog c.len-graphs.result c.next-free.result (c.len-graphs.ensures.count ∙ ap (λ (gs : List PropertyGraph). length gs) c.graphs.ensures.graphs) c.next-free.ensures.next c.query_under-result.ensures.longer
+    c.next-free.ensures.valid.as_many
 
 pub query_under-heads_stood-requires : goal.query_under-heads_stood-requires
 query_under-heads_stood-requires g t c κs within =
@@ -98,11 +104,11 @@ query_under-heads_stood-requires g t c κs within =
     let names : Names = names_in c.args.session.now in
     let are : built s (tree.row (map (head_tree names) c.deref.result.now)) ≡ true =
     ap (λ items. built s (tree.row (map (head_tree names) items))) c.deref.ensures.value ∙ heads_are s names c.args.query.now c.requires.built in
-    (rw c.deref.ensures.value (search (rules, the_lemmas)), (within, (are, c.requires.later, c.requires.most)))
+    (rw c.deref.ensures.value (search (rules, the_lemmas)), (within, (are, (c.requires.later, c.requires.most))))
 
 pub query_under-term_made-requires : goal.query_under-term_made-requires
 query_under-term_made-requires g t c κs within =
-    (search (rules, the_lemmas), (within, (first_is (scope_in c.args.session.now) (names_in c.args.session.now) c.args.query.now c.requires.built, c.in_ok-free.ensures.rises.1, c.in_ok-free.ensures.rises.2)))
+    (search (rules, the_lemmas), (within, (first_is (scope_in c.args.session.now) (names_in c.args.session.now) c.args.query.now c.requires.built, (c.in_ok-free.ensures.rises.1, c.in_ok-free.ensures.rises.2))))
 
 pub query_under-joined-requires : goal.query_under-joined-requires
 query_under-joined-requires g t c κs within =
@@ -110,7 +116,7 @@ query_under-joined-requires g t c κs within =
     let names : Names = names_in c.args.session.now in
     let is : built s (tree.row (map (next_term_tree names) c.deref-2.result.now)) ≡ true =
     ap (λ items. built s (tree.row (map (next_term_tree names) items))) c.deref-2.ensures.value ∙ rest_is s names c.args.query.now c.requires.built in
-    (rw c.deref-2.ensures.value (search (rules, the_lemmas)), (within, (is, omega (arith, ap (λ (n : NamedGraphs). n.next) c.in_ok-first.ensures.kept, c.in_ok-free.ensures.rises, c.in_ok-first.ensures.rises), c.in_ok-first.ensures.rises.1)))
+    (rw c.deref-2.ensures.value (search (rules, the_lemmas)), (within, (is, (omega (arith, ap (λ (n : NamedGraphs). n.next) c.in_ok-first.ensures.kept, c.in_ok-free.ensures.rises, c.in_ok-first.ensures.rises), c.in_ok-first.ensures.rises.1))))
 
 pub query_under-returns-in_err-free-clause-due : goal.query_under-returns-in_err-free-clause-due
 query_under-returns-in_err-free-clause-due g t c =
@@ -162,7 +168,7 @@ heads_stood-head_stood-requires g t c κs within =
     let s : Scope = scope_in c.args.session.now in
     let names : Names = names_in c.args.session.now in
     let at : slice_get c.args.heads.now c.loop-head.head-index ≡ Some c.head-item.result = got c.args.heads.now c.loop-head.head-index c.head-item.result (omega arith) c.head-item.is in
-    (search (rules, the_lemmas), (within, (next_is s (head_tree names) c.args.heads.now c.loop-head.head-index c.head-item.result at c.loop-head.invariant.built, c.loop-head.invariant.later, c.loop-head.invariant.most)))
+    (search (rules, the_lemmas), (within, (next_is s (head_tree names) c.args.heads.now c.loop-head.head-index c.head-item.result at c.loop-head.invariant.built, (c.loop-head.invariant.later, c.loop-head.invariant.most))))
 
 pub heads_stood-loop-head-preserved : goal.heads_stood-loop-head-preserved
 heads_stood-loop-head-preserved g t c =
@@ -197,6 +203,47 @@ heads_stood-returns-in_err-free-clause-due g t c =
 pub heads_stood-returns-in_err-free-clause-longer : goal.heads_stood-returns-in_err-free-clause-longer
 heads_stood-returns-in_err-free-clause-longer g t c = longer_yet c.args.catalog.now c.loop-head.catalog c.head_stood.new.catalog c.loop-head.invariant.longer c.in_err-free.ensures.longer
 
+pub head_stood-query_made-requires : goal.head_stood-query_made-requires
+unfolding head_by query_by built
+head_stood-query_made-requires g t c κs within =
+    let s : Scope = scope_in c.args.session.now in
+    let names : Names = names_in c.args.session.now in
+    let e : head_tree names c.args.head.now ≡ tree.GraphHead (named_by (name_of names) c.in-Graph.name) (query_tree names c.in-Graph.query) = rw c.in-Graph.is (search (rules, the_lemmas)) in
+    (search (rules, the_lemmas), (within, (sym (ap (built s) e) ∙ c.requires.built, (c.requires.later, c.requires.most))))
+
+pub head_stood-unreachable-requires : goal.head_stood-unreachable-requires
+unfolding built
+head_stood-unreachable-requires g t c =
+    let s : Scope = scope_in c.args.session.now in
+    let names : Names = names_in c.args.session.now in
+    let f : false ≡ true = sym (ap (built s) (ap (head_tree names) c.in-Path.is ∙ path_head names c.in-Path.name c.in-Path.chains c.in-Path.filter c.in-Path.cost)) ∙ c.requires.built in
+    absurd (cc)
+
+pub head_stood-returns-in_err-made-in-Graph-clause-due : goal.head_stood-returns-in_err-made-in-Graph-clause-due
+unfolding head_by query_by
+head_stood-returns-in_err-made-in-Graph-clause-due g t c =
+    let s : Scope = scope_in c.args.session.now in
+    let names : Names = names_in c.args.session.now in
+    let at : Standing = standing_at c.args.catalog.now c.args.next in
+    let query = query_tree names c.in-Graph.query in
+    let e : head_tree names c.args.head.now ≡ tree.GraphHead (named_by (name_of names) c.in-Graph.name) query = rw c.in-Graph.is (search (rules, the_lemmas)) in
+    not_stood (λ fault. Denotes s at query (Err fault)) c.in_err-made-in-Graph.field-0.0 c.in_err-made-in-Graph.ensures.due
+    (Heads s at (tree.more (head_tree names c.args.head.now) tree.none)) c.query_made.new.catalog c.from_residual.result c.from_residual.ensures.0 c.from_residual.ensures.1
+    (λ fault d. subst (λ t. Heads s at (tree.more t tree.none) (Err fault)) (sym e) (graph_fails s at (named_by (name_of names) c.in-Graph.name) query fault d))
+
+pub head_stood-returns-clause-due : goal.head_stood-returns-clause-due
+unfolding head_by query_by
+head_stood-returns-clause-due g t c =
+    let s : Scope = scope_in c.args.session.now in
+    let names : Names = names_in c.args.session.now in
+    let at : Standing = standing_at c.args.catalog.now c.args.next in
+    let made : Made = c.in_ok-made-in-Graph.made in
+    let query = query_tree names c.in-Graph.query in
+    let e : head_tree names c.args.head.now ≡ tree.GraphHead (named_by (name_of names) c.in-Graph.name) query = rw c.in-Graph.is (search (rules, the_lemmas)) in
+    let same : stood (standing_at c.query_made.new.catalog made.next) made ≡ stood at made = ap (λ (n : NamedGraphs). stood (standing_at n made.next) made) c.in_ok-made-in-Graph.ensures.kept in
+    stands_on (Heads s at (tree.more (head_tree names c.args.head.now) tree.none)) (λ under. under ≡ stood (standing_at c.query_made.new.catalog made.next) made) c.stand.new.catalog c.stand.result
+    (λ under is. subst (λ t. Heads s at (tree.more t tree.none) under) (sym e) (names_graph s at (named_by (name_of names) c.in-Graph.name) query made under c.in_ok-made-in-Graph.ensures.due (is ∙ same))) c.stand.ensures.due
+
 pub term_made-basic_made-requires-clause-walks : goal.term_made-basic_made-requires-clause-walks
 term_made-basic_made-requires-clause-walks g t c =
     let s : Scope = scope_in c.args.session.now in
@@ -209,7 +256,7 @@ term_made-query_made-requires g t c κs within =
     let names : Names = names_in c.args.session.now in
     let is : built s (query_tree names c.deref-in-Query.result.now) ≡ true =
     ap (λ (q : Query). built s (query_tree names q)) c.deref-in-Query.ensures ∙ (sym (of_inner s names c.in-Query.query) ∙ (sym (ap (λ x. built s (term_tree names x)) c.in-Query.is) ∙ c.requires.built)) in
-    (search (rules, the_lemmas), (within, (is, c.requires.later, c.requires.most)))
+    (search (rules, the_lemmas), (within, (is, (c.requires.later, c.requires.most))))
 
 pub term_made-returns-in-Graph-clause-due : goal.term_made-returns-in-Graph-clause-due
 unfolding term_by Denotes
@@ -217,7 +264,8 @@ term_made-returns-in-Graph-clause-due g t c =
     let s : Scope = scope_in c.args.session.now in
     let names : Names = names_in c.args.session.now in
     let e : term_tree names c.args.term.now ≡ tree.GraphTerm (named_by (name_of names) c.in-Graph.name) = rw c.in-Graph.is (search (rules, the_lemmas)) in
-    subst (λ tree. IsAnswered (DenotesTerm s (standing_at c.args.catalog.now c.args.next) tree) c.graph_named.result) (sym e) c.graph_named.ensures.due
+    subst (λ tree. IsAnswered (DenotesTerm s (standing_at c.args.catalog.now c.args.next) tree) c.graph_named.result) (sym e)
+    (subst (λ (gs : List PropertyGraph). IsAnswered (λ outcome. outcome ≡ Ok (named (record { graphs = gs; next = c.args.next }) (number_at s.graph_at c.in-Graph.name.token))) c.graph_named.result) c.graphs-in-Graph.ensures.graphs c.graph_named.ensures.due)
 
 pub term_made-returns-in-Basic-clause-due : goal.term_made-returns-in-Basic-clause-due
 term_made-returns-in-Basic-clause-due g t c =
@@ -226,7 +274,8 @@ term_made-returns-in-Basic-clause-due g t c =
     let at : Standing = standing_at c.args.catalog.now c.args.next in
     passes_on (DenotesTerm s at (term_tree names c.args.term.now)) (DenotesBasic s at (basic_tree names c.deref.result.now)) c.basic_made.result
     (λ outcome d. subst (λ x. DenotesTerm s at (term_tree names x) outcome) (sym c.in-Basic.is)
-    (basic_comes s names at c.in-Basic.basic outcome (subst (λ (b : Basic). DenotesBasic s at (basic_tree names b) outcome) c.deref.ensures d))) c.basic_made.ensures.due
+    (basic_comes s names at c.in-Basic.basic outcome (subst (λ (b : Basic). DenotesBasic s at (basic_tree names b) outcome) c.deref.ensures d)))
+    (subst (λ (gs : List PropertyGraph). IsAnswered (DenotesBasic s (record { graphs = gs; next = c.args.next }) (basic_tree names c.deref.result.now)) c.basic_made.result) c.graphs.ensures.graphs c.basic_made.ensures.due)
 
 pub term_made-returns-in-Query-clause-due : goal.term_made-returns-in-Query-clause-due
 term_made-returns-in-Query-clause-due g t c =
