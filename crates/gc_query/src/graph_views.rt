@@ -78,9 +78,11 @@ fn add_view(
 fn free_word(checked: &Checked, name: NameAt, catalog: &Catalog) -> Result<Option<Name>, Memory>
     ensures { IfOk result (λ word. word ≡ free_word catalog.now.names (named checked.now.file.names name).name) }
 {
-    match checked.file().names.as_slice().get(name.sym.0 as usize) {
-        Some(word) => unless_taken(word, catalog),
-        None => Ok(None),
+    let names = &checked.file().names;
+    if name.sym.0 < names.len() {
+        unless_taken(names.name(name.sym), catalog)
+    } else {
+        Ok(None)
     }
 }
 
