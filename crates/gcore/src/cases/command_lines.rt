@@ -74,15 +74,9 @@ why-is-no-form-yet
 $ why 1 q g=a
 = 2 gcore: usage
 
-expression-of-most-states-not-built
-$ run q g=s
-q: CONSTRUCT (n) MATCH (n)-/<«511×_ »_>/->(m)
-s: «S»
-= 11 gcore: not built
-
-reach-not-built
+all-paths-not-built
 $ run q S=s
-q: CONSTRUCT (m) MATCH (n)-/<:knows- :knows->/->(m) WHERE n.name = "Cem"
+q: CONSTRUCT (n)-/p/->(m) MATCH (n)-/ALL p<:knows :knows>/->(m) WHERE n.name = "Ann" AND m.name = "Cem"
 s: «S»
 = 11 gcore: not built
 
