@@ -1,5 +1,5 @@
 -- What a CONSTRUCT comes to, by its table, its recipe and what is made of them.
-use Rattle.std.proofs.Common.{◌≡◌, ◌≤◌, ◌+◌, ℕ, List, [], Option, Some, None, Result, Ok, Err, refl, sym, ap, subst, ◌∙◌, arith}
+use Rattle.std.proofs.Common.{◌≡◌, ℕ, List, [], Option, Some, None, Result, Ok, Err, refl, sym, ap, subst, ◌∙◌, arith}
 use Rattle.gc_ast.specs.QueryViews.{basic_tree}
 use Rattle.gc_ast.specs.declared.query.Basic.{Basic, out-Basic}
 use Rattle.gc_alg.specs.Networks.{Database}
@@ -29,7 +29,6 @@ use Rattle.gc_query.specs.Answered.{IsAnswered, Rises, outcome_of}
 use Rattle.gc_query.specs.Basics.{ComesTo, DenotesBasic, read_on, token_of}
 use Rattle.gc_query.specs.Standings.{Standing, Made}
 use Rattle.gc_query.specs.declared.fault.Fault.{Fault}
-use Rattle.gc_query.specs.declared.fault.Fault.TheVariants.{Undefined, IdsSpent, NoGraph}
 use Rattle.gc_query.specs.declared.fault.QueryRefusal.{QueryRefusal}
 use Rattle.gc_query.proofs.Outcomes.{passes_on}
 

@@ -1,6 +1,5 @@
 -- Which trees are built, by their parts.
-use Rattle.std.proofs.Common.{◌≡◌, ◌&&◌, true, [], List, map, rules, ap, ◌∙◌, Box, Global}
-use Rattle.gc_ast.specs.declared.construct.Change.{the_lemmas}
+use Rattle.std.proofs.Common.{◌≡◌, ◌&&◌, [], map, ap, Box, Global}
 use Rattle.gc_ast.specs.declared.construct.Change.TheViews as term
 use Rattle.gc_ast.specs.declared.query.Basic.{Basic}
 use Rattle.gc_ast.specs.declared.query.NextTerm.{NextTerm, out-NextTerm}

@@ -1,5 +1,5 @@
 -- A graph with later terms, one of them after another.
-use Rattle.std.proofs.Common.{◌≡◌, Result, Ok, Err, List, refl}
+use Rattle.std.proofs.Common.{Result, Ok, Err, List, refl}
 use Rattle.gc_ast.specs.Trees.{Tree, ATerm, ANextTerm, RowOf, NextTerm, none, more}
 use Rattle.gc_ast.specs.declared.query.SetOp.{SetOp}
 use Rattle.gc_lower.specs.Scopes.{Scope}

@@ -1,5 +1,5 @@
 -- A graph is told by what it has at each identity.
-use Rattle.std.proofs.Common.{◌≡◌, ℕ, ◌==◌, List, Option, sym, ap, ◌∙◌}
+use Rattle.std.proofs.Common.{◌≡◌, ℕ, ◌==◌, List, sym, ap, ◌∙◌}
 use Rattle.std.specs.Cmp.{nat_cmp_total, unsigned_tied}
 use Rattle.std.specs.List.{find}
 use Rattle.std.specs.Option.{option_map}

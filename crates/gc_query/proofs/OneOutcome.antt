@@ -98,6 +98,7 @@ one_then {A} {B} x y next a b same each p q = by x a b p (subst (λ z. Then z ne
 
 mutual
   unfolding Denotes
+
   pub one_outcome : (s : Scope) (at : Standing) (query : Tree AQuery) (a b : Result Made Fault) → Denotes s at query a → Denotes s at query b → a ≡ b
   one_outcome s at (Query heads first rest) a b p q =
       one_then p.0 q.0 (λ now. Terms s now first rest) a b (one_under s at heads p.0 q.0 p.1 q.1)

@@ -1,11 +1,9 @@
 -- What a query comes to, by its heads and its terms.
-use Rattle.std.proofs.Common.{◌≡◌, ℕ, ◌+◌, true, Bool, List, map, drop, Some, Result, Ok, Err, Box, Global, sym, ap, ◌∙◌, subst, slice_get, rules}
-use Rattle.gc_ast.specs.declared.construct.Change.{the_lemmas}
+use Rattle.std.proofs.Common.{◌≡◌, ℕ, ◌+◌, List, map, drop, Some, Result, Ok, Err, Box, Global, sym, subst, slice_get}
 use Rattle.gc_ast.specs.declared.construct.Change.TheViews as term
 use Rattle.gc_ast.specs.declared.query.Basic.{Basic}
 use Rattle.gc_ast.specs.declared.query.NextTerm.{NextTerm, out-NextTerm}
 use Rattle.gc_ast.specs.declared.query.Query.{Query, out-Query}
-use Rattle.gc_ast.specs.declared.query.SetOp.{SetOp}
 use Rattle.gc_ast.specs.QueryViews.{basic_tree, head_tree, next_term_tree, query_tree, term_tree}
 use Rattle.gc_ast.specs.Trees.{Tree, AHead, ATerm, ANextTerm, RowOf, row}
 use Rattle.gc_ast.specs.Trees as tree

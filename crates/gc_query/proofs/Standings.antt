@@ -7,7 +7,7 @@ use Rattle.gc_catalog.specs.NamedGraphs.{NamedGraphs, AreBelow, first_graphs, wi
 use Rattle.gc_ppg.specs.FreeIds.{first_free}
 use Rattle.gc_ppg.proofs.Agreement.{coherent_with_each}
 use Rattle.gc_ppg.proofs.FreeIds.{below_above}
-use Rattle.gc_spec.specs.Coherence.{AreCoherent, shapes_of}
+use Rattle.gc_spec.specs.Coherence.{AreCoherent}
 use Rattle.gc_spec.specs.PropertyGraph.{PropertyGraph, ids_of}
 use Rattle.gc_query.specs.Answered.{IsLonger}
 use Rattle.gc_query.specs.Queries.{agrees_with, fits, stood, with_made}

@@ -1,5 +1,5 @@
 -- What a statement does to what stands, by what its query comes to.
-use Rattle.std.proofs.Common.{◌≡◌, ◌<◌, ◌+◌, ◌&&◌, ℕ, zero, suc, Bool, true, false, List, [], ◌∷◌, map, length, get_or, Option, Some, None, if◌then◌else◌, Result, Ok, Err, refl, sym, ap, subst, ◌∙◌, arith, slice_get, rules}
+use Rattle.std.proofs.Common.{◌≡◌, ◌<◌, ◌&&◌, ℕ, zero, suc, Bool, true, false, List, [], ◌∷◌, map, length, get_or, Option, Some, if◌then◌else◌, Result, Ok, Err, refl, sym, ap, subst, ◌∙◌, slice_get}
 use Rattle.std.specs.List.{list_all}
 use Rattle.std.specs.Result.{IsErr, IsErrAnd}
 use Rattle.gc_ast.specs.QueryViews.{query_tree, statement_tree}

@@ -1,5 +1,5 @@
 -- What a CONSTRUCT comes to.
-use Rattle.std.specs.Prelude.{◌≡◌, ℕ, [], Option, Some, None, Result, Ok, Err}
+use Rattle.std.specs.Prelude.{◌≡◌, ℕ, [], Some, Result, Ok, Err}
 use Rattle.gc_alg.specs.Tables.{IsTableOfBlock}
 use Rattle.gc_alg.specs.Trees.{reads_of}
 use Rattle.gc_ast.specs.Trees.{Tree, ABasic, Basic}

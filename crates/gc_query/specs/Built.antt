@@ -1,5 +1,5 @@
 -- Which query files are built.
-use Rattle.std.specs.Prelude.{Bool, true, false, ◌&&◌, List, [], ◌∷◌}
+use Rattle.std.specs.Prelude.{Bool, true, false, ◌&&◌, []}
 use Rattle.std.specs.List.{list_all}
 use Rattle.gc_alg.specs.Trees as alg
 use Rattle.gc_alg.specs.Trees.{ABlock, BlockOf, PartOf, ConjunctOf, ExistsOf}

@@ -1,7 +1,7 @@
 -- What a query comes to: a graph, or a fault.
 use Rattle.std.specs.Prelude.{◌≡◌, ℕ, Bool, true, false, ◌&&◌, nat_le, List, [], ◌∷◌, ◌++◌, map, Result, Ok, Err, slice_get, if◌then◌else◌}
 use Rattle.std.specs.Option.{unwrap_or}
-use Rattle.gc_ast.specs.Trees.{Tree, AQuery, ATerm, AHead, ANextTerm, AStatement, RowOf, Query, NextTerm, BasicTerm, GraphTerm, QueryTerm, PathHead, GraphHead, none, more}
+use Rattle.gc_ast.specs.Trees.{Tree, AQuery, ATerm, AHead, ANextTerm, RowOf, Query, NextTerm, BasicTerm, GraphTerm, QueryTerm, PathHead, GraphHead, none, more}
 use Rattle.gc_ast.specs.declared.query.SetOp.{SetOp}
 use Rattle.gc_ast.specs.declared.query.SetOp.TheVariants as op
 use Rattle.gc_lower.specs.Scopes.{Scope, number_at}

@@ -1,5 +1,5 @@
 -- What the statements of a query file come to, one after another.
-use Rattle.std.specs.Prelude.{◌≡◌, ℕ, List, [], ◌∷◌, Option, Some, None, Result, Ok, Err, if◌then◌else◌, ◌⊎◌}
+use Rattle.std.specs.Prelude.{◌≡◌, List, [], ◌∷◌, Option, Some, None, Result, Ok, Err, if◌then◌else◌, ◌⊎◌}
 use Rattle.gc_ast.specs.Trees.{Tree, AStatement, View, Ask}
 use Rattle.gc_lower.specs.Scopes.{Scope}
 use Rattle.gc_query.specs.Queries.{Denotes, fits, from_next, with_made}

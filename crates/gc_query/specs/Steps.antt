@@ -4,7 +4,7 @@ use Rattle.gc_ast.specs.Trees.{Tree, AStatement, View, Ask}
 use Rattle.gc_base.specs.Words.{is_word}
 use Rattle.gc_catalog.specs.NamedGraphs.{NamedGraphs, number_of, with_graph, with_local}
 use Rattle.gc_lower.specs.Scopes.{Scope}
-use Rattle.gc_query.specs.Sessions.{Answer, Answers, Prints, Names, Fails}
+use Rattle.gc_query.specs.Sessions.{Answers, Prints, Names, Fails}
 use Rattle.gc_query.specs.Standings.{Standing, Made}
 use Rattle.gc_query.specs.declared.fault.QueryRefusal.{QueryRefusal}
 use Rattle.gc_query.specs.declared.fault.QueryRefusal.TheVariants as refusal

@@ -1,6 +1,6 @@
-use Rattle.std.proofs.Common.{◌≡◌, sym}
+use Rattle.std.proofs.Common.{sym}
 use Rattle.gc_ppg.specs.Shapes.{agrees}
-use Rattle.gc_spec.specs.Coherence.{EdgeShape, NodeShape, PathShape}
+use Rattle.gc_spec.specs.Coherence.{NodeShape}
 use Rattle.gc_spec.specs.PropertyGraph.{Node}
 use Rattle.gc_query.proofs.AllOf.{fails, passes}
 use Rattle.gc_query.proofs.agreeing.nodes_agree.Goals as goal

@@ -1,8 +1,8 @@
 use Rattle.std.proofs.Common.{◌≡◌, drop}
 use Rattle.std.specs.List.{list_all}
 use Rattle.gc_ppg.specs.Shapes.{agrees}
-use Rattle.gc_spec.specs.Coherence.{EdgeShape, NodeShape, PathShape}
-use Rattle.gc_spec.specs.PropertyGraph.{Node, Edge, Path}
+use Rattle.gc_spec.specs.Coherence.{PathShape}
+use Rattle.gc_spec.specs.PropertyGraph.{Path}
 use Rattle.gc_query.proofs.agreeing.paths_agree.Given as goal
 
 -- what is left decides

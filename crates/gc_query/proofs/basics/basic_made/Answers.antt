@@ -1,4 +1,4 @@
-use Rattle.std.proofs.Common.{◌≡◌, [], List, ap, sym, subst, ◌∙◌}
+use Rattle.std.proofs.Common.{List, ap, sym, subst, ◌∙◌}
 use Rattle.gc_ast.specs.QueryViews.{basic_tree}
 use Rattle.gc_ast.specs.declared.query.Basic.{out-Basic}
 use Rattle.gc_expr.specs.Views.{Names}

@@ -1,4 +1,4 @@
-use Rattle.std.proofs.Common.{◌≡◌, Some, sym, ◌∙◌, subst}
+use Rattle.std.proofs.Common.{sym, ◌∙◌, subst}
 use Rattle.gc_ast.specs.PatternViews.{named}
 use Rattle.gc_catalog.specs.AddRefusals.{IsAddRefusal}
 use Rattle.gc_query.proofs.FreeWords.{not_taken}

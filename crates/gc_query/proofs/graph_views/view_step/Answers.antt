@@ -70,6 +70,8 @@ returns-in-Ok g c =
     let read : c.graphs.result.now ≡ before.graphs = c.graphs.ensures.graphs ∙ ap (λ (n : NamedGraphs). n.graphs) kept in
     let told = fits_beside c.graphs.result.now before.graphs c.in_ok-made.made.next c.in_ok-made.made read c.in_ok-fits.field-0 c.in_ok-fits.ensures in
     let well : fits (standing before) made ≡ true = ap (fits (standing before)) same ∙ is_true _ c.in_ok-fits.field-0 told c.if-not-branch.false in
-    let now : c.set_next.new.self ≡ with_next before made.next = c.set_next.ensures ∙ ap (λ n. with_next n made.next) kept in
-    (made, view_names s (standing before) query name made (subst (λ m. Denotes s (standing before) query (Ok m)) (sym same) c.in_ok-made.ensures.due) well,
-      c.in-Ok.ensures.added ∙ ap (λ (n : NamedGraphs). with_named n (free_word n.names name.name) made.graph) now)
+    let now : c.set_next.new.self ≡ with_next before made.next = c.set_next.ensures ∙ ap (λ n. with_next n made.next) kept in (
+      made,
+      view_names s (standing before) query name made (subst (λ m. Denotes s (standing before) query (Ok m)) (sym same) c.in_ok-made.ensures.due) well,
+      c.in-Ok.ensures.added ∙ ap (λ (n : NamedGraphs). with_named n (free_word n.names name.name) made.graph) now,
+    )

@@ -32,12 +32,19 @@ joined-term_made-requires g t c κs within =
     let names : Names = names_in c.args.session.now in
     let at : slice_get c.args.rest.now c.loop-later.later-index ≡ Some c.later-item.result = got c.args.rest.now c.loop-later.later-index c.later-item.result (omega arith) c.later-item.is in
     let left : Made = record { graph = c.left.inside.graph; next = c.left.inside.next } in
-    let same : left ≡ c.loop-later.left = c.left.view_is in
-    (search (rules, the_lemmas), (within, (
-      sym (of_next s names c.later-item.result) ∙ next_is s (next_term_tree names) c.args.rest.now c.loop-later.later-index c.later-item.result at c.loop-later.invariant.built,
-      (omega (arith, c.requires.later, c.loop-later.invariant.later, ap (λ (n : NamedGraphs). n.next) c.loop-later.invariant.kept, ap (λ (m : Made). m.next) same),
-      subst (λ (m : Made). m.next ≤ 9007199254740992) (sym same) c.loop-later.invariant.most),
-    )))
+    let same : left ≡ c.loop-later.left = c.left.view_is in (
+      search (rules, the_lemmas),
+      (
+        within,
+        (
+          sym (of_next s names c.later-item.result) ∙ next_is s (next_term_tree names) c.args.rest.now c.loop-later.later-index c.later-item.result at c.loop-later.invariant.built,
+          (
+            omega (arith, c.requires.later, c.loop-later.invariant.later, ap (λ (n : NamedGraphs). n.next) c.loop-later.invariant.kept, ap (λ (m : Made). m.next) same),
+            subst (λ (m : Made). m.next ≤ 9007199254740992) (sym same) c.loop-later.invariant.most,
+          ),
+        ),
+      ),
+    )
 
 pub joined-returns-in_err-right-clause-due : goal.joined-returns-in_err-right-clause-due
 joined-returns-in_err-right-clause-due g t c =

@@ -1,4 +1,4 @@
-use Rattle.std.proofs.Common.{◌≡◌, ℕ, Option, Ok, Result, sym, ap, ◌∙◌, unwrap_or}
+use Rattle.std.proofs.Common.{ℕ, Option, Ok, Result, ap, ◌∙◌, unwrap_or}
 use Rattle.gc_lower.specs.Namings.{scope_in as scope_at}
 use Rattle.gc_spec.specs.PropertyGraph.{PropertyGraph}
 use Rattle.gc_query.specs.Queries.{graph_of_number}

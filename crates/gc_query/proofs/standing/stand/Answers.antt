@@ -1,12 +1,11 @@
-use Rattle.std.proofs.Common.{◌≡◌, ◌≤◌, ◌++◌, ◌∷◌, [], ◌∙◌, List, Ok, Err, true, false, sym, ap, subst}
+use Rattle.std.proofs.Common.{◌≡◌, ◌≤◌, ◌∙◌, sym, ap, subst}
 use Rattle.std.specs.List.{AllByRecursion}
 use Rattle.gc_catalog.specs.NamedGraphs.{NamedGraphs, AreBelow, with_local}
 use Rattle.gc_spec.specs.Coherence.{AreCoherent}
-use Rattle.gc_query.specs.Answered.{IsLonger, standing_at}
-use Rattle.gc_query.specs.Queries.{fits, stood}
+use Rattle.gc_query.specs.Answered.{standing_at}
 use Rattle.gc_query.specs.Standings.{Made}
 use Rattle.gc_query.proofs.AllOf.{is_false, is_true}
-use Rattle.gc_query.proofs.Standings.{as_long, below, coherent, fits_beside, longer_by, longer_with, stands, stands_not}
+use Rattle.gc_query.proofs.Standings.{below, coherent, fits_beside, longer_with, stands_not}
 use Rattle.gc_query.proofs.standing.stand.Goals as goal
 
 pub returns-then-not-branch-clause-due : goal.returns-then-not-branch-clause-due

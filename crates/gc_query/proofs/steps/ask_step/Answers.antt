@@ -20,6 +20,9 @@ returns g c =
     let s = scope_of c.args.checked.now 0 in
     let query = query_tree c.args.checked.now.file.names c.args.query.now in
     let made : Made = record { graph = c.made.inside.graph; next = c.made.inside.next } in
-    let same : made ≡ c.in_ok-made.made = c.made.view_is in
-    (made, ask_prints s (standing c.args.catalog.now) query made (subst (λ m. Denotes s (standing c.args.catalog.now) query (Ok m)) (sym same) c.in_ok-made.ensures.due), refl,
-      c.set_next.ensures ∙ ap (λ n. with_next n made.next) c.in_ok-made.ensures.kept)
+    let same : made ≡ c.in_ok-made.made = c.made.view_is in (
+      made,
+      ask_prints s (standing c.args.catalog.now) query made (subst (λ m. Denotes s (standing c.args.catalog.now) query (Ok m)) (sym same) c.in_ok-made.ensures.due),
+      refl,
+      c.set_next.ensures ∙ ap (λ n. with_next n made.next) c.in_ok-made.ensures.kept,
+    )
