@@ -177,11 +177,11 @@ a: «labels»
 q: PATH v = (x)-[]->(y) CONSTRUCT (n) MATCH (n)-/<:knows- | _* (!:Person ~v)>/->(m)
 = 11 gcore: not built
 
-expression-in-two-brackets-not-built
+expression-in-two-brackets
 $ run q g=a
 a: «labels»
 q: CONSTRUCT (n) MATCH (n)-/<((_-))>/->(m)
-= 11 gcore: not built
+= 0 {"edges":[],"gcore":1,"nodes":[],"paths":[]}
 
 bracket-that-closes-nothing-in-an-expression-p2
 $ run q g=a
