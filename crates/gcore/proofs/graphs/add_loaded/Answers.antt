@@ -1,11 +1,12 @@
-use Rattle.std.proofs.Common.{◌≡◌, ◌≤◌, ℕ, sym, ap, subst, arith}
+use Rattle.std.proofs.Common.{◌≡◌, ◌≤◌, ℕ, false, true, None, is_some, sym, ap, ◌∙◌, subst, arith}
 use Rattle.std.specs.List.{AllByRecursion}
 use Rattle.std.proofs.Math.Nat.{max-le, le-max_right}
 use Rattle.gc_spec.specs.Coherence.{AreCoherent}
 use Rattle.gc_spec.specs.PropertyGraph.{ids_of}
 use Rattle.gc_ppg.specs.FreeIds.{first_free}
 use Rattle.gc_ppg.proofs.FreeIds.{below_above, first_free_most}
-use Rattle.gc_catalog.specs.NamedGraphs.{NamedGraphs}
+use Rattle.gc_catalog.specs.AddRefusals.{IsAddRefusal}
+use Rattle.gc_catalog.specs.NamedGraphs.{NamedGraphs, number_of}
 use Rattle.gcore.proofs.graphs.add_loaded.Goals as goal
 
 abbrev AtMost : ℕ → Type 0
@@ -24,3 +25,12 @@ add-requires-clause-below c =
     let next : c.set_next.new.self.next ≡ c.max-free.result = ap (λ (k : NamedGraphs). k.next) c.set_next.ensures in
     let above : first_free c.args.graph ≤ c.set_next.new.self.next = omega (arith, next, c.max-free.ensures, c.first_free.ensures.free, le-max_right c.next.result c.first_free.result) in
     below_above 0 c.set_next.new.self.next (ids_of c.args.graph) above
+
+pub unreachable-requires : goal.unreachable-requires
+unreachable-requires c =
+    let names : c.set_next.new.self.names ≡ c.args.catalog.now.names = ap (λ (k : NamedGraphs). k.names) c.set_next.ensures in
+    let none : number_of c.set_next.new.self.names c.in_ok-copy.field-0 ≡ None =
+    ap (λ ns. number_of ns c.in_ok-copy.field-0) names ∙ (ap (number_of c.args.catalog.now.names) c.in_ok-copy.ensures ∙ c.requires.fresh) in
+    let taken = subst (IsAddRefusal c.set_next.new.self c.in_ok-copy.field-0) c.in-Err-NameTaken.field-0-is c.in-Err-NameTaken.ensures.refused in
+    let f : false ≡ true = sym (ap is_some none) ∙ taken in
+    absurd (cc)
