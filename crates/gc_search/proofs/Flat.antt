@@ -12,7 +12,7 @@ use Rattle.gc_prod.specs.Products.{Setting, moves}
 use Rattle.gc_search.specs.Arrivals.{FoundWalk, edges_along, entry_of, same_pair, arrivals_at, settled_at, passage, passages, stays_at, extended, extensions, TakesLeast, IsSeen}
 use Rattle.gc_search.specs.Entries.{Entry, entry, AtMost, extend, IsMoveCost}
 use Rattle.gc_search.specs.Passages.{Has, Passage, Reach, IsFirstK}
-use Rattle.gc_search.proofs.Settle.{Has_front, Inv, inv_start, inv_end, seen_covered, full_covered, inv_drop, inv_settle}
+use Rattle.gc_search.proofs.Settle.{Has_front, Inv, inv_start, inv_end, inv_same, seen_covered, full_covered, inv_drop, inv_settle}
 
 eqb_same : (a b : ℕ) → (a == b) ≡ true → a ≡ b
 eqb_same a b h = grind (arith, nat_tests)
@@ -87,6 +87,10 @@ module _ (setting : Setting) (source : ℕ) (k : ℕ) where
         | inl d ↦ (sym (ap (λ (v : FoundWalk). v.at) d ∙ h.2), sym (ap entry_of d ∙ h.3))
         | inr g ↦ elim g [ ]
       ])
+
+  pub state_same : (settled xs ys : List FoundWalk) → ((x : FoundWalk) → Has xs x → Has ys x) → ((x : FoundWalk) → Has ys x → Has xs x) → State settled xs → State settled ys
+  state_same settled xs ys there back s =
+      inv_same Pair (passages setting) (pair source 0) k (settled_at settled) (IsPending xs) (IsPending ys) s (λ p x h. (h.0, there h.0 h.1, h.2, h.3)) (λ p x h. (h.0, back h.0 h.1, h.2, h.3))
 
   pub state_end : (settled : List FoundWalk) → State settled [] → (q : Pair) → IsFirstK k (Reach (passages setting) (pair source 0) q) (settled_at settled q)
   state_end settled s = inv_end Pair (passages setting) (pair source 0) k (settled_at settled) (IsPending []) s (λ p e h. h.1)

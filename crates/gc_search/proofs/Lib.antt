@@ -1,8 +1,10 @@
 pub mod Bridge
+pub mod ChainLaws
 pub mod ConformLaws
 pub mod First
 pub mod FirstLaws
 pub mod Flat
+pub mod HeapLaws
 pub mod KeyLaws
 pub mod LoopLaws
 pub mod Order

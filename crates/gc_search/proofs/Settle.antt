@@ -94,6 +94,22 @@ module _ (P : Type 0) (passages : P → List (Passage P)) (source : P) (k : ℕ)
       → ((x : Entry) → Has (at q) x → x.edges ≡ e.edges → ⊥) → k ≤ length (at q) → Covered k (at q) e
   full_covered at pending inv q e h new n = Past n (λ x g. at_most_apart x e (inv.ordered q q x e g h) (new x g))
 
+  -- the same is pending
+  pub inv_same : (at : P → List Entry) (pending pending' : P → Entry → Type 0) → Inv at pending → ((p : P) (x : Entry) → pending p x → pending' p x)
+      → ((p : P) (x : Entry) → pending' p x → pending p x) → Inv at pending'
+  inv_same at pending pending' inv there back =
+      let due : (p : P) (x : Entry) → IsDue at pending p x → IsDue at pending' p x = λ p x d. elim d [ inl c ↦ inl c | inr h ↦ inr (there p x h) ] in
+      record {
+        sound = inv.sound;
+        pending_sound = λ p x h. inv.pending_sound p x (back p x h);
+        few = inv.few;
+        ascends = inv.ascends;
+        distinct = inv.distinct;
+        ordered = λ p q x e g h. inv.ordered p q x e g (back q e h);
+        begun = due source (entry 0 []) inv.begun;
+        closed = λ p x g m h. due m.to (extend x m.cost m.edges) (inv.closed p x g m h);
+      }
+
   -- what is covered is taken away
   pub inv_drop : (at : P → List Entry) (pending pending' : P → Entry → Type 0) → Inv at pending → (q : P) (e : Entry) → Covered k (at q) e
       → ((p : P) (x : Entry) → pending' p x → pending p x)

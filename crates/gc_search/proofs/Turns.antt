@@ -1,7 +1,8 @@
 -- The turns of the search: one that settles the least walk that is pending, and two that drop it.
-use Rattle.std.proofs.Common.{◌≡◌, ℕ, ◌+◌, ◌*◌, ◌^◌, ◌<◌, ◌≤◌, ◌==◌, true, List, [], ◌∷◌, ◌++◌, length, refl, sym, subst, arith, length-append}
+use Rattle.std.proofs.Common.{◌≡◌, ℕ, ◌+◌, ◌*◌, ◌^◌, ◌<◌, ◌≤◌, List, [], ◌∷◌, ◌++◌, length, refl, subst, arith, length-append}
 use Rattle.std.specs.List.{AllByRecursion}
-use Rattle.std.proofs.lemmas.Bool.Decides.{nat_tests}
+use Rattle.std.specs.List.Sorted.{IsPermutation}
+use Rattle.std.proofs.lemmas.List.Sorted.{IsPermutation-sym}
 use Rattle.gc_base.proofs.SetLaws.{AllByRecursion-append}
 use Rattle.gc_prod.specs.declared.moves.Pair.{Pair}
 use Rattle.gc_prod.specs.Leading.{pair}
@@ -11,12 +12,9 @@ use Rattle.gc_search.specs.Entries.{IsMoveCost}
 use Rattle.gc_search.specs.Finding.{IsFollowed}
 use Rattle.gc_search.specs.Passages.{Has, Passage, Reach, IsFirstK}
 use Rattle.gc_search.proofs.Bridge.{contains_of, follows_push}
-use Rattle.gc_search.proofs.Flat.{State, state_start, state_end, state_seen, state_full, state_settle, Has_from_map}
+use Rattle.gc_search.proofs.Flat.{State, state_start, state_end, state_same, state_seen, state_full, state_settle, Has_from_map}
+use Rattle.gc_search.proofs.HeapLaws.{has_permuted}
 use Rattle.gc_search.proofs.LoopLaws.{all_has, all_of_has, all_rest, costs_more}
-
-pub none_pending : {X : Type 0} (xs : List X) (n : ℕ) → n ≡ length xs → (n == 0) ≡ true → xs ≡ []
-none_pending [] n is none = refl
-none_pending (x ∷ xs) n is none = let zero_is : n ≡ 0 = grind (arith, nat_tests) in absurd (omega (arith, is, zero_is))
 
 module _ (setting : Setting) (source k : ℕ) where
   -- what holds before and after each turn: each that is pending costs at most so much for each that is settled
@@ -26,8 +24,20 @@ module _ (setting : Setting) (source k : ℕ) where
     pub found : AllByRecursion (IsFollowed setting source) settled
     pub due : AllByRecursion (IsFollowed setting source) pending
 
-  pub turn_start : IsOn [] (stays_at source ∷ [])
-  turn_start = record { state = state_start setting source k; small = (omega arith, tt); found = tt; due = ((refl, refl, refl), tt) }
+  -- the order of those that are pending means nothing
+  permuted : (settled xs ys : List FoundWalk) → IsPermutation xs ys → IsOn settled xs → IsOn settled ys
+  permuted settled xs ys p on =
+      let back : (x : FoundWalk) → Has ys x → Has xs x = λ x h. has_permuted ys xs x (IsPermutation-sym xs ys p) h in
+      record {
+        state = state_same setting source k settled xs ys (λ x h. has_permuted xs ys x p h) back on.state;
+        small = all_of_has (λ (a : FoundWalk). a.cost ≤ length settled * 2 ^ 64) ys (λ x h. all_has (λ (a : FoundWalk). a.cost ≤ length settled * 2 ^ 64) xs x on.small (back x h));
+        found = on.found;
+        due = all_of_has (IsFollowed setting source) ys (λ x h. all_has (IsFollowed setting source) xs x on.due (back x h));
+      }
+
+  pub turn_start : (pending : List FoundWalk) → IsPermutation (stays_at source ∷ []) pending → IsOn [] pending
+  turn_start pending p =
+      permuted [] (stays_at source ∷ []) pending p (record { state = state_start setting source k; small = (omega arith, tt); found = tt; due = ((refl, refl, refl), tt) })
 
   pub turn_end : (settled pending : List FoundWalk) → IsOn settled pending → pending ≡ [] → (q : Pair) → IsFirstK k (Reach (passages setting) (pair source 0) q) (settled_at settled q)
   turn_end settled pending on none = state_end setting source k settled (subst (State setting source k settled) none on.state)
@@ -60,19 +70,19 @@ module _ (setting : Setting) (source k : ℕ) where
     turn_full count new is full = dropped (state_full setting source k settled cs rest c on.state t new (omega (arith, is, full)))
 
     pub turn_settles : ((q : Pair) (m : Passage Pair) → Has (passages setting q) m → IsMoveCost m.cost m.edges) → (count : ℕ) → (IsSeen settled c → ⊥)
-        → count ≡ length (settled_at settled c.at) → count < k → (after : List FoundWalk) → after ≡ rest ++ extensions setting c (moves setting c.at.node c.at.state)
-        → ((most : ℕ) → c.cost + 2 ^ 64 ≤ most → AllByRecursion (λ a. a.cost ≤ most) rest → AllByRecursion (λ a. a.cost ≤ most) after)
+        → count ≡ length (settled_at settled c.at) → count < k → (after : List FoundWalk) → IsPermutation (rest ++ extensions setting c (moves setting c.at.node c.at.state)) after
+        → AllByRecursion (λ a. a.cost ≤ c.cost + 2 ^ 64) (extensions setting c (moves setting c.at.node c.at.state))
         → IsOn (settled ++ c ∷ []) after
     turn_settles costs count new is room after grown small =
-        let next = moves setting c.at.node c.at.state in
-        let least : length settled * 2 ^ 64 ≤ length (settled ++ c ∷ []) * 2 ^ 64 = omega (arith, length-append settled (c ∷ [])) in
-        let most : c.cost + 2 ^ 64 ≤ length (settled ++ c ∷ []) * 2 ^ 64 = omega (arith, length-append settled (c ∷ []), turn_small) in
+        let next = extensions setting c (moves setting c.at.node c.at.state) in
+        let most = length (settled ++ c ∷ []) * 2 ^ 64 in
+        let least : length settled * 2 ^ 64 ≤ most = omega (arith, length-append settled (c ∷ [])) in
+        let room_for : c.cost + 2 ^ 64 ≤ most = omega (arith, length-append settled (c ∷ []), turn_small) in
         let all = all_rest (λ (a : FoundWalk). a.cost ≤ length settled * 2 ^ 64) cs rest c t on.small in
         let is_followed = all_has (IsFollowed setting source) cs c on.due t.there in
-        record {
-          state = subst (State setting source k (settled ++ c ∷ [])) (sym grown) (state_settle setting source k settled cs rest c on.state t costs new (omega (arith, is, room)));
-          small = small (length (settled ++ c ∷ []) * 2 ^ 64) most (costs_more (length settled * 2 ^ 64) (length (settled ++ c ∷ []) * 2 ^ 64) rest least all);
+        permuted (settled ++ c ∷ []) (rest ++ next) after grown (record {
+          state = state_settle setting source k settled cs rest c on.state t costs new (omega (arith, is, room));
+          small = AllByRecursion-append (λ (a : FoundWalk). a.cost ≤ most) rest next (costs_more (length settled * 2 ^ 64) most rest least all) (costs_more (c.cost + 2 ^ 64) most next room_for small);
           found = AllByRecursion-append (IsFollowed setting source) settled (c ∷ []) on.found (is_followed, tt);
-          due = subst (AllByRecursion (IsFollowed setting source)) (sym grown)
-              (AllByRecursion-append (IsFollowed setting source) rest (extensions setting c next) (all_rest (IsFollowed setting source) cs rest c t on.due) (followed_further c is_followed));
-        }
+          due = AllByRecursion-append (IsFollowed setting source) rest next (all_rest (IsFollowed setting source) cs rest c t on.due) (followed_further c is_followed);
+        })

@@ -7,7 +7,7 @@ use Rattle.gc_prod.specs.declared.moves.Pair.{Pair}
 use Rattle.gc_prod.specs.declared.moves.RunMove.{RunMove}
 use Rattle.gc_prod.specs.Leading.{pair, target_of, steps_of}
 use Rattle.gc_prod.specs.Products.{Setting, moves}
-use Rattle.gc_search.specs.Entries.{Entry, entry, AtMost, LexLess}
+use Rattle.gc_search.specs.Entries.{Entry, entry, AtMost}
 use Rattle.gc_search.specs.Passages.{Has, Passage}
 
 -- a walk from the source: the pair at which it arrives, its cost and its steps, and the moves of its run
@@ -47,7 +47,12 @@ stays_at source = record { at = pair source 0; cost = 0; steps = []; run = [] }
 
 -- a walk, and a move behind it; and all that are so by the moves of its pair
 abbrev pub extended : Setting → FoundWalk → Move → FoundWalk
-extended setting a m = record { at = target_of m; cost = a.cost + m.cost; steps = a.steps ++ steps_of setting m; run = a.run ++ record { by = m.by; to = m.state } ∷ [] }
+extended setting a m = record {
+  at = target_of m;
+  cost = a.cost + m.cost;
+  steps = a.steps ++ steps_of setting m;
+  run = a.run ++ record { by = m.by; to = m.state } ∷ [];
+}
 
 abbrev pub extensions : Setting → FoundWalk → List Move → List FoundWalk
 extensions setting a ms = map (extended setting a) ms
@@ -56,10 +61,6 @@ extensions setting a ms = map (extended setting a) ms
 abbrev pub Told : Bool → Type 0 → Type 0 → Type 0
 Told true A B = A
 Told false A B = B
-
--- of two lists of one length, the first is lower, or they are the same
-abbrev pub LexUpto : List ℕ → List ℕ → Type 0
-LexUpto xs ys = LexLess xs ys ⊎ (xs ≡ ys)
 
 -- two arrive at one pair along the same edges
 abbrev pub AreSame : FoundWalk → FoundWalk → Type 0

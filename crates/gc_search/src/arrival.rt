@@ -1,11 +1,14 @@
-ghost use Rattle.std.specs.Prelude.{◌≡◌, ◌+◌, ◌<◌, ◌≤◌, ◌^◌, ◌++◌, length, IfOk, OnOk};
+ghost use Rattle.std.specs.Prelude.{◌≡◌, ◌+◌, ◌<◌, ◌≤◌, ◌^◌, ◌++◌, Some, refl, IfOk, OnOk};
+ghost use Rattle.std.specs.Cmp.{eq_by_cmp_equiv, partial_equiv_from_equiv, partial_order_from_total};
+ghost use Rattle.std.specs.Ordering.{eq_by_cmp};
 ghost use Rattle.gc_prod.specs.SymbolHops.{steps_by};
-ghost use Rattle.gc_search.specs.Arrivals.{edges_along, entry_of, stays_at, extended, AreSame, LexUpto, Told};
-ghost use Rattle.gc_search.specs.Entries.{AtMost, LexLess};
+ghost use Rattle.gc_search.specs.Arrivals.{edges_along, stays_at, extended, AreSame, Told};
+ghost use Rattle.gc_search.specs.HeapOrder.{heap_order, heap_order_total};
 
 use gc_base::{Id, Memory, Step, edges_cmp};
 use gc_prod::{By, Keyed, Move, Pair, Product, RunMove};
 use std::alloc::Global;
+use std::cmp::Ordering;
 use std::marker::Model;
 
 // A walk from the source: where it arrives, at which cost, by which steps and by which run.
@@ -33,6 +36,49 @@ impl Keyed for Arrival {
     }
 }
 
+impl PartialEq for Arrival {
+    ghost eq = { eq_by_cmp heap_order };
+
+    ghost laws = { partial_equiv_from_equiv (eq_by_cmp_equiv heap_order_total) };
+
+    fn eq(&self, other: &Arrival) -> bool {
+        self.cmp(other).is_eq()
+    }
+}
+
+impl Eq for Arrival {
+    ghost laws = { eq_by_cmp_equiv heap_order_total };
+}
+
+impl PartialOrd for Arrival {
+    ghost partial_cmp = { λ a b. Some (heap_order a b) };
+
+    ghost laws = { partial_order_from_total heap_order_total };
+
+    fn partial_cmp(&self, other: &Arrival) -> Option<Ordering> {
+        Some(self.cmp(other))
+    }
+}
+
+// The walk that is taken first is the greatest, since a heap hands out the greatest.
+impl Ord for Arrival {
+    ghost cmp = { heap_order };
+
+    ghost total = { heap_order_total };
+
+    ghost matches_partial_cmp = { λ a b. refl };
+
+    ghost matches_eq = { λ a b. refl };
+
+    fn cmp(&self, other: &Arrival) -> Ordering {
+        other
+            .cost
+            .cmp(&self.cost)
+            .then(other.steps.len().cmp(&self.steps.len()))
+            .then_with(|| edges_cmp(&other.steps, &self.steps))
+    }
+}
+
 impl Arrival {
     // The walk that stays at the source.
     pub(crate) fn start(alloc: Global, source: Id) -> Arrival
@@ -47,21 +93,6 @@ impl Arrival {
             steps: Vec::new(alloc),
             run: Vec::new(alloc),
         }
-    }
-
-    // Whether it comes before another or is level with it.
-    pub(crate) fn is_at_most(&self, other: &Arrival) -> bool
-        ensures { Told result (AtMost (entry_of self.now) (entry_of other.now)) (AtMost (entry_of other.now) (entry_of self.now)) }
-    {
-        if self.cost != other.cost {
-            return self.cost < other.cost;
-        }
-        let count = self.steps.len();
-        let other_count = other.steps.len();
-        if count != other_count {
-            return count < other_count;
-        }
-        is_lower_or_same(&self.steps, &other.steps)
     }
 
     // Whether it arrives where another does, along the same edges.
@@ -100,14 +131,6 @@ pub(crate) fn same_pair(a: &Pair, b: &Pair) -> bool
     ensures { Told result (a.now ≡ b.now) (a.now ≡ b.now → ⊥) }
 {
     a.node == b.node && a.state == b.state
-}
-
-// Whether the edges along the first of two lists of one length are lower or the same.
-fn is_lower_or_same(steps: &[Step], others: &[Step]) -> bool
-    requires { length steps.now ≡ length others.now }
-    ensures { Told result (LexUpto (edges_along steps.now) (edges_along others.now)) (LexLess (edges_along others.now) (edges_along steps.now)) }
-{
-    edges_cmp(steps, others).is_le()
 }
 
 fn have_same_edges(steps: &[Step], others: &[Step]) -> bool

@@ -5,7 +5,6 @@ ghost use Rattle.gc_search.specs.Arrivals.{arrivals_at};
 ghost use Rattle.gc_search.specs.Finding.{walks_to, runs_to, potential_of};
 
 use crate::arrival::{Arrival, same_pair};
-use crate::settling::count_at;
 use gc_base::{Cost, Id, Memory, Sequence, Walk};
 use gc_prod::{ByKey, Pair, Run};
 use std::marker::Model;
@@ -111,6 +110,19 @@ impl Found {
         };
         nth_at(self.around(&at), &at, i as usize)
     }
+}
+
+// How many of some walks arrive at a pair.
+fn count_at(walks: &[Arrival], at: &Pair) -> usize
+    ensures { result ≡ length (arrivals_at walks.now at.now) }
+{
+    let mut count = 0;
+    for known in walks {
+        if same_pair(&known.at, at) {
+            count += 1;
+        }
+    }
+    count
 }
 
 // The i-th of those that arrive at a pair.

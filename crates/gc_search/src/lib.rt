@@ -5,7 +5,9 @@
 
 mod arrival;
 mod found;
+mod pending;
 mod searching;
+mod settled;
 mod settling;
 
 pub use found::Found;

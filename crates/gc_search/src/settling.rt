@@ -1,76 +1,39 @@
-ghost use Rattle.std.specs.Prelude.{◌≡◌, ◌+◌, ◌*◌, ◌≤◌, ◌^◌, ◌<◌, ◌++◌, ℕ, length, vec_len, IfOk, OnOk};
+ghost use Rattle.std.specs.Prelude.{◌≡◌, ◌+◌, ◌*◌, ◌≤◌, ◌^◌, IfOk};
 ghost use Rattle.std.specs.List.{AllByRecursion};
 ghost use Rattle.gc_prod.specs.declared.moves.Pair.{Pair};
 ghost use Rattle.gc_prod.specs.Leading.{pair};
 ghost use Rattle.gc_prod.specs.Products.{moves};
-ghost use Rattle.gc_search.specs.Arrivals.{settled_at, passages, extensions, IsSeen, TakesLeast, Told};
+ghost use Rattle.gc_search.specs.Arrivals.{settled_at, passages, extensions};
 ghost use Rattle.gc_search.specs.Counting.{degree, most_moves};
 ghost use Rattle.gc_search.specs.Entries.{IsMoveCost};
 ghost use Rattle.gc_search.specs.Finding.{IsFollowed};
 ghost use Rattle.gc_search.specs.Passages.{Has, Passage, Reach, IsFirstK};
 
-use crate::arrival::{Arrival, same_pair};
+use crate::arrival::Arrival;
+use crate::pending::Pending;
+use crate::settled::Settled;
 use gc_base::{Id, Memory, Steps};
-use gc_prod::{Pair, Product};
+use gc_prod::Product;
 use std::alloc::Global;
 use std::sync::ledger::Ledger;
 
-// Takes a least one out.
-fn take_least(pending: &mut Vec<Arrival>) -> Arrival
-    requires { 0 < vec_len pending.old }
-    ensures { TakesLeast pending.old.items result pending.new.items }
-{
-    let mut best = 0;
-    for i in 0..pending.len() {
-        if !pending[best].is_at_most(&pending[i]) {
-            best = i;
-        }
-    }
-    pending.remove(best)
-}
-
-// Whether its edges are those of a walk that is settled at its pair.
-fn is_seen(settled: &[Arrival], next: &Arrival) -> bool
-    ensures { Told result (IsSeen settled.now next.now) (IsSeen settled.now next.now → ⊥) }
-{
-    for known in settled {
-        if known.is_same(next) {
-            return true;
-        }
-    }
-    false
-}
-
-// How many are settled at a pair.
-pub(crate) fn count_at(settled: &[Arrival], at: &Pair) -> usize
-    ensures { result ≡ length (settled_at settled.now at.now) }
-{
-    let mut count = 0;
-    for known in settled {
-        if same_pair(&known.at, at) {
-            count += 1;
-        }
-    }
-    count
-}
-
-// Adds its extensions by the moves of its pair at the end. Each costs little more.
-fn push_all<L: Ledger>(
+// The extensions of a walk by the moves of its pair. Each costs little more.
+fn all_extended<L: Ledger>(
     alloc: Global,
     p: &Product,
     last: &Arrival,
-    pending: &mut Vec<Arrival>,
     steps: &mut Steps<L>,
-) -> Result<(), Memory>
+) -> Result<Vec<Arrival>, Memory>
     requires { last.now.cost + 2 ^ 64 ≤ 2 ^ 128 }
-    ensures exact { OnOk result (pending.new.items ≡ pending.old.items ++ extensions p.now last.now (moves p.now last.now.at.node last.now.at.state)) }
-    ensures small { OnOk result ((most : ℕ) → last.now.cost + 2 ^ 64 ≤ most → AllByRecursion (λ a. a.cost ≤ most) pending.old.items → AllByRecursion (λ a. a.cost ≤ most) pending.new.items) }
+    ensures exact { IfOk result (λ more. more.items ≡ extensions p.now last.now (moves p.now last.now.at.node last.now.at.state)) }
+    ensures small { IfOk result (λ more. AllByRecursion (λ a. a.cost ≤ last.now.cost + 2 ^ 64) more.items) }
     ensures few { steps.new ≤ steps.old + degree p.now last.now }
 {
+    let mut more = Vec::new(alloc);
     for i in 0..usize::MAX {
         match p.move_at(last.at.node, last.at.state, i, steps) {
-            None => return Ok(()),
-            Some(by) => pending.push(last.extended(alloc, p, by)?)?,
+            None => return Ok(more),
+            Some(by) => more.push(last.extended(alloc, p, by)?)?,
         }
     }
     Err(Memory)
@@ -90,17 +53,15 @@ pub(crate) fn settle<L: Ledger>(
     ensures followed { IfOk result (λ settled. AllByRecursion (IsFollowed p.now source) settled.items) }
     ensures few { steps.new ≤ steps.old + k * most_moves p.now }
 {
-    let mut settled = Vec::new(alloc);
-    let mut pending = Vec::new(alloc);
-    pending.push(Arrival::start(alloc, source))?;
-    'turns: while !pending.is_empty() {
-        let next = take_least(&mut pending);
-        let seen = is_seen(&settled, &next);
-        let count = count_at(&settled, &next.at);
+    let mut settled = Settled::of(alloc, p.nodes(), p.width())?;
+    let mut pending = Pending::of(alloc, Arrival::start(alloc, source))?;
+    'turns: while let Some(next) = pending.take_least() {
+        let seen = settled.is_seen(&next);
+        let count = settled.count_at(&next.at);
         if !seen && count < k as usize {
-            push_all(alloc, p, &next, &mut pending, steps)?;
+            pending.add_all(all_extended(alloc, p, &next, steps)?)?;
             settled.push(next)?;
         }
     }
-    Ok(settled)
+    Ok(settled.into_vec())
 }
