@@ -11,7 +11,7 @@ OUT = "return document.getElementById('out').textContent"
 NOTE = "return document.getElementById('note').textContent"
 QUERY = "return document.querySelector('#query-editor textarea').value"
 NODES = "return Array.from(document.querySelectorAll('.picture g.node'), (node) => node.id).sort()"
-SLOW = "CONSTRUCT (a) MATCH (a), (b), (c) WHERE a.x = 1 AND b.x = 2 AND c.x = 3"
+SLOW = "CONSTRUCT (a) MATCH (a), (b), (c) WHERE a.x + b.x + c.x = 1000000000"
 PEOPLE = TOP + "/examples/people.json"
 SOCIAL = TOP + "/examples/tour/social.json"
 PICTURE_BYTES = 200 * 1024
