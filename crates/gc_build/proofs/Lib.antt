@@ -1,10 +1,8 @@
-pub mod Above
-pub mod Absorbed
+pub mod Atoms
+pub mod Distinct
 pub mod Filters
-pub mod FromNothing
-pub mod Lookups
 pub mod Members
-pub mod Once
+pub mod OneClaims
 pub mod Outcomes
-pub mod Told
-pub mod Unions
+pub mod Passing
+pub mod Searchable

@@ -1,5 +1,5 @@
 -- What the steps of a CONSTRUCT come to together.
-use Rattle.std.proofs.Common.{◌≡◌, ℕ, ◌+◌, ◌≤◌, List, map, Some, None, ap, ◌∙◌, sym, subst}
+use Rattle.std.proofs.Common.{◌≡◌, ℕ, ◌+◌, ◌≤◌, List, map, Some, None, ap, ◌∙◌, subst}
 use Rattle.gc_build_descriptions.specs.Described.{described_variable}
 use Rattle.gc_build_descriptions.specs.Faults.{first_fault}
 use Rattle.gc_build_descriptions.specs.declared.described.Described.{Described}
@@ -8,10 +8,12 @@ use Rattle.gc_build_numbers.specs.Settings.{Setting}
 use Rattle.gc_build_numbers.specs.declared.numbered.Numbering.{Numbering}
 use Rattle.gc_build_recipe.specs.Recipes.{Recipe}
 use Rattle.gc_spec.specs.PropertyGraph.{PropertyGraph}
-use Rattle.gc_sets.specs.Claims.{IsClaimed}
-use Rattle.gc_build.specs.Constructed.{IsAfter, IsBuilt, IsSound, IsUnfit, claims, claims_by}
+use Rattle.gc_build.specs.AllPaths.{Patterns}
+use Rattle.gc_build.specs.Claimed.{AreClaims}
+use Rattle.gc_build.specs.Constructed.{IsAfter, IsBuilt, IsSound, IsUnfit, IsUnited, making, making_by}
+use Rattle.gc_build.specs.Makings.{Making}
 
-module _ (s : Setting) (r : Recipe) (next : ℕ) (n : Numbering) (is : n ≡ numbering s r.variables)
+module _ (s : Setting) (r : Recipe) (ps : Patterns) (next : ℕ) (n : Numbering) (is : n ≡ numbering s r.variables)
     (defined : first_fault s n.variables r.assignments ≡ None) (after : ℕ) (fits : IsAfter next n.next (Some after)) where
   sound : IsSound s r next
   sound = record {
@@ -20,20 +22,24 @@ module _ (s : Setting) (r : Recipe) (next : ℕ) (n : Numbering) (is : n ≡ num
   }
 
   module _ (d : List Described) (same : d ≡ map (described_variable s r n.variables) r.variables) where
-    same_claims : claims_by s r next n.variables d ≡ claims s r next
-    same_claims =
-        ap (claims_by s r next n.variables) same
-        ∙ ap (λ m. claims_by s r next m.variables (map (described_variable s r m.variables) r.variables)) is
+    same_making : making_by s r next n.variables d ≡ making s r next
+    same_making =
+        ap (making_by s r next n.variables) same
+        ∙ ap (λ m. making_by s r next m.variables (map (described_variable s r m.variables) r.variables)) is
 
-    pub built : (g : PropertyGraph) → IsClaimed (claims_by s r next n.variables d) g → IsBuilt s r next (record { graph = g; next = after })
-    built g claimed = record {
+    pub built : (g : PropertyGraph) → IsUnited ps (making_by s r next n.variables d) r.chains r.graphs (Some g) → IsBuilt s r ps next (record { graph = g; next = after })
+    built g h = record {
       sound = sound;
-      graph = subst (λ c. IsClaimed c g) same_claims claimed;
+      claims = h.claims;
+      due = subst (λ (m : Making). AreClaims ps m r.chains r.graphs h.claims) same_making h.are;
+      graph = h.outcome;
       after = fits.0 ∙ ap (λ m. next + m.next) is;
     }
 
-    pub unfit : ((g : PropertyGraph) → IsClaimed (claims_by s r next n.variables d) g → ⊥) → IsUnfit s r next
-    unfit none = record {
+    pub unfit : IsUnited ps (making_by s r next n.variables d) r.chains r.graphs None → IsUnfit s r ps next
+    unfit h = record {
       sound = sound;
-      none = λ g claimed. none g (subst (λ c. IsClaimed c g) (sym same_claims) claimed);
+      claims = h.claims;
+      due = subst (λ (m : Making). AreClaims ps m r.chains r.graphs h.claims) same_making h.are;
+      none = h.outcome;
     }

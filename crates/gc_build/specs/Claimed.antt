@@ -1,5 +1,5 @@
 -- What the kept instances of a CONSTRUCT claim.
-use Rattle.std.specs.Prelude.{ℕ, Bool, true, false, map, List, [], ◌∷◌, ◌++◌, Option, Some, None, slice_get, if◌then◌else◌}
+use Rattle.std.specs.Prelude.{◌≡◌, ℕ, Bool, true, false, map, List, [], ◌∷◌, ◌++◌, Option, Some, None, slice_get, if◌then◌else◌}
 use Rattle.std.specs.List.{flat_map}
 use Rattle.std.specs.Option.{option_map, option_and_then, unwrap_or}
 use Rattle.gc_base.specs.declared.place.Sym.{Sym}
@@ -13,14 +13,19 @@ use Rattle.gc_build_recipe.specs.Recipes.{Chain}
 use Rattle.gc_build_recipe.specs.declared.variable.Grouping.{Grouping}
 use Rattle.gc_build_recipe.specs.declared.variable.Grouping.TheVariants as by
 use Rattle.gc_build_recipe.specs.declared.variable.Variable.{Variable}
+use Rattle.gc_group.specs.declared.key.Key.{Key}
+use Rattle.gc_rows.specs.declared.datum.Datum.{Datum}
+use Rattle.gc_rows.specs.declared.datum.Datum.TheVariants as datum
 use Rattle.gc_spec.specs.PropertyGraph.{PropertyGraph, Node, Edge, Path, edge_at}
 use Rattle.gc_sets.specs.Claims.{Claims}
 use Rattle.gc_values.specs.Descriptions.{Description}
 use Rattle.gc_values.specs.PathParts.{stored_walk}
 use Rattle.gc_build.specs.declared.elements.Claims.{Claims as Given}
+use Rattle.gc_build.specs.AllPaths.{AreAllParts, Patterns}
+use Rattle.gc_build.specs.declared.all_paths.AllParts.{AllParts}
 use Rattle.gc_build.specs.Kept.{Kept, is_claimed, kept_of}
 use Rattle.gc_build.specs.Makings.{Making, descriptions_of, identity_at, identity_by}
-use Rattle.gc_build.specs.Walks.{read_graph, walk_edges, walk_nodes, walked}
+use Rattle.gc_build.specs.Walks.{read_graph, walk_edges, walk_nodes}
 
 -- what a claim says of each kind of element
 abbrev pub node_claim : ℕ → Description → Node
@@ -50,13 +55,22 @@ abbrev pub edge_claim : ℕ → Description → Option Ends → List Edge
 edge_claim id d None = []
 edge_claim id d (Some ends) = record { id = id; from = ends.from; to = ends.to; labels = d.labels; properties = d.properties } ∷ []
 
--- a stored path has the walk that its graph tells
+-- a stored path has the walk that its graph tells, and a new one that by which its rows are grouped
+abbrev pub found_walk : Datum → Option Walk
+found_walk (datum.Found walk) = Some walk
+found_walk d = None
+
+abbrev pub key_walk : Key → Option Walk
+key_walk key = option_and_then found_walk (option_and_then (λ part. part) (slice_get key.parts 0))
+
+abbrev pub walk_by : Setting → Sym → Grouping → Element → Option Walk
+walk_by s x by.Bound e = stored_walk (read_graph s x) e.number
+walk_by s x by.Walk e = key_walk e.group.key
+walk_by s x grouping e = None
+
 abbrev pub path_claim : ℕ → Description → Option Walk → List Path
 path_claim id d None = []
 path_claim id d (Some walk) = record { id = id; walk = walk; labels = d.labels; properties = d.properties } ∷ []
-
-abbrev pub stored_claim : ℕ → Description → Setting → Sym → List Path
-stored_claim id d s x = path_claim id d (stored_walk (read_graph s x) id)
 
 -- what is claimed for an element of a variable of each kind
 abbrev pub node_claims : Making → Variable → Element → Description → List Node
@@ -66,7 +80,7 @@ abbrev pub edge_claims : Making → Variable → Element → Description → Lis
 edge_claims m v e d = edge_claim (identity_by m.next v.grouping e.number) d (ends_by m v.var v.grouping e)
 
 abbrev pub path_claims : Making → Variable → Element → Description → List Path
-path_claims m v e d = stored_claim (identity_by m.next v.grouping e.number) d m.setting v.var
+path_claims m v e d = path_claim (identity_by m.next v.grouping e.number) d (walk_by m.setting v.var v.grouping e)
 
 -- what is claimed for those of a variable's elements that kept instances have
 abbrev pub claims_of : {X : Type 0} → List Kept → Sym → (Element → Description → List X) → List Element → List Description → List X
@@ -93,16 +107,25 @@ in_graph all (Some g) = all g
 abbrev pub in_items : {X : Type 0} → List PropertyGraph → List ℕ → (PropertyGraph → List X) → List X
 in_items graphs numbers all = flat_map (λ number. in_graph all (slice_get graphs number)) numbers
 
--- all that is claimed: the elements of kept instances, the nodes and edges of their walks, and the graphs that are items
-abbrev pub claims_with : Making → List Kept → (graphs : List ℕ) → Claims
-claims_with m kept graphs = record {
-  nodes = flat_map (claims_for m kept kind.Node (node_claims m)) m.variables ++ flat_map (walk_nodes m kept) (walked kept m.variables) ++ in_items m.setting.graphs graphs (λ g. g.nodes);
-  edges = flat_map (claims_for m kept kind.Edge (edge_claims m)) m.variables ++ flat_map (walk_edges m kept) (walked kept m.variables) ++ in_items m.setting.graphs graphs (λ g. g.edges);
+-- all that is claimed, given what lies on the walks of ALL paths: the elements of kept instances, the nodes and edges of their walks, and
+-- the graphs that are items
+abbrev pub claims_with : Making → List Kept → List AllParts → (graphs : List ℕ) → Claims
+claims_with m kept parts graphs = record {
+  nodes =
+      flat_map (claims_for m kept kind.Node (node_claims m)) m.variables ++ flat_map (walk_nodes m kept) parts ++ in_items m.setting.graphs graphs (λ g. g.nodes);
+  edges =
+      flat_map (claims_for m kept kind.Edge (edge_claims m)) m.variables ++ flat_map (walk_edges m kept) parts ++ in_items m.setting.graphs graphs (λ g. g.edges);
   paths = flat_map (claims_for m kept kind.Path (path_claims m)) m.variables ++ in_items m.setting.graphs graphs (λ g. g.paths);
 }
 
-abbrev pub all_claims : Making → List Chain → (graphs : List ℕ) → Claims
-all_claims m chains graphs = claims_with m (map (kept_of m) chains) graphs
+abbrev pub all_claims : Making → List AllParts → List Chain → (graphs : List ℕ) → Claims
+all_claims m parts chains graphs = claims_with m (map (kept_of m) chains) parts graphs
+
+-- what is claimed, with exactly what lies on the walks of ALL paths by the patterns of the MATCH
+pub record AreClaims (ps : Patterns) (m : Making) (chains : List Chain) (graphs : List ℕ) (c : Claims) : Type 0 where
+  pub parts : List AllParts
+  pub exact : AreAllParts ps m (map (kept_of m) chains) parts
+  pub are : c ≡ all_claims m parts chains graphs
 
 -- claims as they are given
 abbrev pub seen : Given → Claims

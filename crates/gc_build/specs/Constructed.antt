@@ -1,6 +1,8 @@
 -- The graph that a CONSTRUCT makes of a table, or the fault that it ends in.
 use Rattle.std.specs.Prelude.{◌≡◌, ℕ, ◌+◌, ◌<◌, ◌≤◌, List, map, Option, Some, None, Result, Ok, Err, ⊤}
-use Rattle.gc_build.specs.Claimed.{all_claims}
+use Rattle.gc_build.specs.AllPaths.{Patterns}
+use Rattle.gc_build.specs.Claimed.{AreClaims}
+use Rattle.gc_build.specs.Makings.{Making}
 use Rattle.gc_build_descriptions.specs.Described.{described_variable}
 use Rattle.gc_build_descriptions.specs.Faults.{first_fault}
 use Rattle.gc_build_descriptions.specs.declared.described.Described.{Described}
@@ -8,7 +10,7 @@ use Rattle.gc_build_descriptions.specs.declared.fault.Fault.{Fault}
 use Rattle.gc_build_numbers.specs.Numbers.{numbering}
 use Rattle.gc_build_numbers.specs.Settings.{Setting}
 use Rattle.gc_build_numbers.specs.declared.numbered.Numbered.{Numbered}
-use Rattle.gc_build_recipe.specs.Recipes.{Recipe}
+use Rattle.gc_build_recipe.specs.Recipes.{Chain, Recipe}
 use Rattle.gc_spec.specs.PropertyGraph.{PropertyGraph}
 use Rattle.gc_sets.specs.Claims.{Claims, IsClaimed, IsOutcome}
 use Rattle.gc_build.specs.declared.built.Built.{Built}
@@ -29,13 +31,16 @@ needed s r = (numbering s r.variables).next
 abbrev pub fault : Setting → Recipe → Option Fault
 fault s r = first_fault s (elements s r) r.assignments
 
--- what is claimed, where the variables have these elements with these descriptions, and new ones have identities from the next one on
-abbrev pub claims_by : Setting → Recipe → (next : ℕ) → List Numbered → List Described → Claims
-claims_by s r next numbered described =
-    all_claims (record { setting = s; variables = r.variables; numbered = numbered; described = described; next = next }) r.chains r.graphs
+-- what is made, where the variables have these elements with these descriptions, and new ones have identities from the next one on
+abbrev pub making_by : Setting → Recipe → (next : ℕ) → List Numbered → List Described → Making
+making_by s r next numbered described = record { setting = s; variables = r.variables; numbered = numbered; described = described; next = next }
 
-abbrev pub claims : Setting → Recipe → (next : ℕ) → Claims
-claims s r next = claims_by s r next (elements s r) (map (described_variable s r (elements s r)) r.variables)
+abbrev pub making : Setting → Recipe → (next : ℕ) → Making
+making s r next = making_by s r next (elements s r) (map (described_variable s r (elements s r)) r.variables)
+
+-- what is claimed, where the MATCH has these patterns
+abbrev pub AreDue : Setting → Recipe → Patterns → (next : ℕ) → Claims → Type 0
+AreDue s r ps next c = AreClaims ps (making s r next) r.chains r.graphs c
 
 -- the identity behind so many new ones; they suffice where it is at most one more than the largest
 abbrev pub IsAfter : (next count : ℕ) → Option ℕ → Type 0
@@ -53,21 +58,31 @@ pub record IsSpent (s : Setting) (r : Recipe) (next count : ℕ) : Type 0 where
   pub needs : count ≡ needed s r
   pub spent : 9007199254740992 < next + count
 
--- the graph of all claims, and the identity that comes next
-pub record IsBuilt (s : Setting) (r : Recipe) (next : ℕ) (b : Built) : Type 0 where
+-- the graph of all that is claimed, and the identity that comes next
+pub record IsBuilt (s : Setting) (r : Recipe) (ps : Patterns) (next : ℕ) (b : Built) : Type 0 where
   pub sound : IsSound s r next
-  pub graph : IsClaimed (claims s r next) b.graph
+  pub claims : Claims
+  pub due : AreDue s r ps next claims
+  pub graph : IsClaimed claims b.graph
   pub after : b.next ≡ next + needed s r
 
--- the claims are those of no graph
-pub record IsUnfit (s : Setting) (r : Recipe) (next : ℕ) : Type 0 where
+-- what is claimed is no graph
+pub record IsUnfit (s : Setting) (r : Recipe) (ps : Patterns) (next : ℕ) : Type 0 where
   pub sound : IsSound s r next
-  pub none : (g : PropertyGraph) → IsClaimed (claims s r next) g → ⊥
+  pub claims : Claims
+  pub due : AreDue s r ps next claims
+  pub none : (g : PropertyGraph) → IsClaimed claims g → ⊥
 
--- what a CONSTRUCT comes to
-abbrev pub Constructs : Setting → Recipe → (next : ℕ) → Result (Option Built) Refusal → Type 0
-Constructs s r next (Ok (Some b)) = IsBuilt s r next b
-Constructs s r next (Ok None) = IsUnfit s r next
-Constructs s r next (Err (refusal.Fault f)) = fault s r ≡ Some f
-Constructs s r next (Err (refusal.IdsSpent count)) = IsSpent s r next count
-Constructs s r next (Err refusal.Memory) = ⊤
+-- what a CONSTRUCT comes to on a table of a MATCH with these patterns
+abbrev pub Constructs : Setting → Recipe → Patterns → (next : ℕ) → Result (Option Built) Refusal → Type 0
+Constructs s r ps next (Ok (Some b)) = IsBuilt s r ps next b
+Constructs s r ps next (Ok None) = IsUnfit s r ps next
+Constructs s r ps next (Err (refusal.Fault f)) = fault s r ≡ Some f
+Constructs s r ps next (Err (refusal.IdsSpent count)) = IsSpent s r next count
+Constructs s r ps next (Err refusal.Memory) = ⊤
+
+-- the graph of what is claimed, or that there is none
+pub record IsUnited (ps : Patterns) (m : Making) (chains : List Chain) (graphs : List ℕ) (o : Option PropertyGraph) : Type 0 where
+  pub claims : Claims
+  pub are : AreClaims ps m chains graphs claims
+  pub outcome : IsOutcome claims o

@@ -1,15 +1,12 @@
 -- Which instances of a construct chain are kept.
-use Rattle.std.specs.Prelude.{ℕ, ◌+◌, Bool, true, false, ◌&&◌, List, [], ◌∷◌, Option, Some, None, is_some, slice_get, if◌then◌else◌}
+use Rattle.std.specs.Prelude.{ℕ, ◌+◌, Bool, true, false, ◌&&◌, List, [], ◌∷◌, Option, Some, None, is_some, slice_get}
 use Rattle.std.specs.List.{list_all, list_any}
 use Rattle.std.specs.Option.{unwrap_or}
 use Rattle.gc_base.specs.declared.place.Sym.{Sym}
 use Rattle.gc_expr.specs.Trees.{TreeOf, AnExpr}
-use Rattle.gc_build_numbers.specs.Settings.{Setting}
 use Rattle.gc_build_numbers.specs.declared.numbered.Element.{Element}
 use Rattle.gc_build_recipe.specs.Recipes.{Chain}
 use Rattle.gc_rows.specs.Rows.{datum_at, lists}
-use Rattle.gc_rows.specs.declared.datum.Datum.{Datum}
-use Rattle.gc_rows.specs.declared.datum.Datum.TheVariants.{Stored}
 use Rattle.gc_rows.specs.declared.row.Binding.{Binding}
 use Rattle.gc_values.specs.Contexts.{Context}
 use Rattle.gc_values.specs.ExprTruths.{truth_of}
@@ -25,12 +22,8 @@ abbrev pub has_places : Making → Chain → (place : ℕ) → Bool
 has_places m c place = list_all (λ x. is_some (identity_at m x place)) c.places
 
 -- each path of which the chain takes the nodes and edges is bound
-abbrev pub is_stored : Option Datum → Bool
-is_stored (Some (Stored id)) = true
-is_stored d = false
-
 abbrev pub has_paths : Chain → List Binding → Bool
-has_paths c row = list_all (λ p. is_stored (datum_at row p)) c.projected
+has_paths c row = list_all (λ p. is_some (datum_at row p)) c.projected
 
 -- the condition is true of what was made
 abbrev pub is_yes : Truth3 → Bool
@@ -38,7 +31,7 @@ is_yes Yes = true
 is_yes t = false
 
 abbrev pub when_context : Making → (place : ℕ) → List Binding → Context
-when_context m place row = record { row = row; reads = m.setting.reads; graphs = m.setting.graphs; made = all_made m place }
+when_context m place row = record { row = row; reads = m.setting.reads; graphs = m.setting.graphs; made = all_made m place row }
 
 abbrev pub holds : Option (TreeOf Sym AnExpr) → Context → Bool
 holds None ctx = true

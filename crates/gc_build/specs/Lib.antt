@@ -1,7 +1,8 @@
-pub mod BoundNodes
+pub mod AllPaths
 pub mod Claimed
 pub mod Constructed
 pub mod Kept
 pub mod Makings
-pub mod Readings
+pub mod Passed
+pub mod Patterns
 pub mod Walks

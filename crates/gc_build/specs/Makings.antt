@@ -1,23 +1,22 @@
 -- What a CONSTRUCT makes of each row.
-use Rattle.std.specs.Prelude.{ℕ, ◌+◌, ◌==◌, List, [], ◌∷◌, map, Option, Some, None, slice_get, if◌then◌else◌}
+use Rattle.std.specs.Prelude.{ℕ, ◌+◌, ◌==◌, List, [], map, Option, Some, None, slice_get}
 use Rattle.std.specs.List.{find}
 use Rattle.std.specs.Option.{option_map, option_and_then, unwrap_or}
 use Rattle.gc_base.specs.declared.place.Sym.{Sym}
 use Rattle.gc_build_descriptions.specs.Described.{blank}
-use Rattle.gc_build_descriptions.specs.Faults.{elements_of}
 use Rattle.gc_build_descriptions.specs.declared.described.Described.{Described}
 use Rattle.gc_build_numbers.specs.Keys.{number_at, which_at}
 use Rattle.gc_build_numbers.specs.Settings.{Setting}
-use Rattle.gc_build_numbers.specs.declared.numbered.Element.{Element}
 use Rattle.gc_build_numbers.specs.declared.numbered.Numbered.{Numbered}
 use Rattle.gc_ppg.specs.declared.shape.Kind.{Kind}
 use Rattle.gc_ppg.specs.declared.shape.Kind.TheVariants as kind
 use Rattle.gc_build_recipe.specs.declared.variable.Grouping.{Grouping}
 use Rattle.gc_build_recipe.specs.declared.variable.Grouping.TheVariants as by
 use Rattle.gc_build_recipe.specs.declared.variable.Variable.{Variable}
+use Rattle.gc_rows.specs.Rows.{datum_at}
 use Rattle.gc_rows.specs.declared.datum.Datum.{Datum}
 use Rattle.gc_rows.specs.declared.datum.Datum.TheVariants as datum
-use Rattle.gc_spec.specs.PropertyGraph.{is_among}
+use Rattle.gc_rows.specs.declared.row.Binding.{Binding}
 use Rattle.gc_values.specs.Descriptions.{Description}
 use Rattle.gc_values.specs.declared.reads.Made.{Made}
 
@@ -59,12 +58,18 @@ element_of kind.Node id = datum.Node id
 element_of kind.Edge id = datum.Edge id
 element_of kind.Path id = datum.Stored id
 
--- a variable as the row at a place makes it
-abbrev pub made_with : Variable → Option ℕ → Description → Made
-made_with v id d = record { var = v.var; datum = option_map (element_of v.kind) id; labels = d.labels; properties = d.properties }
+-- a new path of a found walk stands for the walk, which the row binds
+abbrev pub datum_by : Grouping → Kind → (on_row : Option Datum) → Option ℕ → Option Datum
+datum_by by.Walk k on_row id = on_row
+datum_by grouping k on_row id = option_map (element_of k) id
 
-unfoldable pub made_at : Making → (place : ℕ) → Variable → Made
-made_at m place v = made_with v (identity_of m place v) (description_at m v.var place)
+-- a variable as a row makes it
+abbrev pub made_with : Variable → Option Datum → Description → Made
+made_with v datum d = record { var = v.var; datum = datum; labels = d.labels; properties = d.properties }
 
-abbrev pub all_made : Making → (place : ℕ) → List Made
-all_made m place = map (made_at m place) m.variables
+-- as the row at a place does
+unfoldable pub made_at : Making → (place : ℕ) → List Binding → Variable → Made
+made_at m place row v = made_with v (datum_by v.grouping v.kind (datum_at row v.var) (identity_of m place v)) (description_at m v.var place)
+
+abbrev pub all_made : Making → (place : ℕ) → List Binding → List Made
+all_made m place row = map (made_at m place row) m.variables

@@ -1,5 +1,5 @@
 -- The nodes and edges of the walks that a CONSTRUCT stores or projects.
-use Rattle.std.specs.Prelude.{ℕ, ◌+◌, ◌==◌, Bool, true, false, ◌&&◌, ◌||◌, List, [], ◌∷◌, ◌++◌, map, fold, Option, Some, None, if◌then◌else◌}
+use Rattle.std.specs.Prelude.{ℕ, ◌+◌, Bool, true, false, ◌&&◌, ◌||◌, List, [], ◌∷◌, ◌++◌, map, fold, Option, Some, None, if◌then◌else◌}
 use Rattle.std.specs.List.{filter, flat_map, list_any}
 use Rattle.std.specs.Option.{option_to_list}
 use Rattle.gc_base.specs.Walks.{edges_of}
@@ -16,6 +16,7 @@ use Rattle.gc_values.specs.Contexts.{own_among, walk_among}
 use Rattle.gc_values.specs.PathParts.{nodes_along, walk_in}
 use Rattle.gc_build.specs.Kept.{Kept, is_kept}
 use Rattle.gc_build.specs.Makings.{Making}
+use Rattle.gc_build.specs.declared.all_paths.AllParts.{AllParts}
 
 -- the graph in which a variable is read, and the one in which the elements on its walk are
 abbrev pub read_graph : Setting → Sym → Option PropertyGraph
@@ -56,9 +57,12 @@ abbrev pub of_ids : {X : Type 0} → (X → ℕ) → (PropertyGraph → List X) 
 of_ids id_of all ids None = []
 of_ids id_of all ids (Some g) = filter (λ x. is_among ids (id_of x)) (all g)
 
--- the nodes and the edges on the walks of a path in kept instances, as the path's graph has them
-abbrev pub walk_nodes : Making → List Kept → Sym → List Node
-walk_nodes m kept p = of_ids (λ n. n.id) (λ g. g.nodes) (flat_map nodes_along (walks_of m kept p)) (along_graph m.setting p)
+-- the nodes and the edges on the walks of a path in kept instances, and those on the walks that it stands for there as an ALL path, as
+-- the path's graph has them
+abbrev pub walk_nodes : Making → List Kept → AllParts → List Node
+walk_nodes m kept parts =
+    of_ids (λ n. n.id) (λ g. g.nodes) (flat_map nodes_along (walks_of m kept parts.path) ++ parts.nodes) (along_graph m.setting parts.path)
 
-abbrev pub walk_edges : Making → List Kept → Sym → List Edge
-walk_edges m kept p = of_ids (λ e. e.id) (λ g. g.edges) (flat_map edges_of (walks_of m kept p)) (along_graph m.setting p)
+abbrev pub walk_edges : Making → List Kept → AllParts → List Edge
+walk_edges m kept parts =
+    of_ids (λ e. e.id) (λ g. g.edges) (flat_map edges_of (walks_of m kept parts.path) ++ parts.edges) (along_graph m.setting parts.path)

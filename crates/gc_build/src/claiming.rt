@@ -1,12 +1,16 @@
 ghost use Rattle.std.specs.Prelude.{◌≡◌, ◌++◌, IfOk, OnOk, fold, map};
 ghost use Rattle.std.specs.List.{flat_map, filter};
-ghost use Rattle.gc_build.specs.Claimed.{all_claims, claims_for, claims_with, in_items, seen};
+ghost use Rattle.gc_build.specs.Claimed.{AreClaims, claims_for, claims_with, in_items, seen};
+ghost use Rattle.gc_build.specs.AllPaths.{AreReady};
+ghost use Rattle.gc_build.specs.Patterns.{plain};
 ghost use Rattle.gc_build.specs.Walks.{along_graph, is_path, of_ids, walked, walks_of, with_path};
 
+use crate::all_paths::{AllParts, all_parts};
 use crate::elements::{Claim, Claims, claim_for};
 use crate::graphs::{Part, add_graphs, add_walks};
 use crate::kept::{Kept, kept_instances};
 use crate::making::Making;
+use crate::patterns::Patterns;
 use crate::walks::OnWalk;
 use gc_base::{Memory, Steps, Sym};
 use gc_build_recipe::{Chain, Variable};
@@ -16,37 +20,39 @@ use std::alloc::Global;
 use std::sync::ledger::Ledger;
 
 /// What a CONSTRUCT claims: for each variable those of its elements that kept instances of the chains
-/// have, the nodes and edges of the walks that these instances store or project, and all that the
-/// graphs of these numbers have. `steps` counts what is read. An identity that passes its limit is want
-/// of memory.
-pub fn claims<L: Ledger>(
+/// have, the nodes and edges of the walks that these instances store or project, by the patterns of the
+/// MATCH where they are of ALL paths, and all that the graphs of these numbers have. `steps` counts what
+/// is read. An identity that passes its limit is want of memory.
+pub(crate) fn claims<L: Ledger>(
     making: &Making<'_>,
+    patterns: &Patterns<'_>,
     chains: &[Chain],
     graphs: &[u32],
     steps: &mut Steps<L>,
 ) -> Result<Claims, Memory>
-    ensures { IfOk result (λ claims. seen claims ≡ all_claims making.now chains.now graphs.now) }
+    requires { AreReady making.now.setting.graphs (plain patterns.now) }
+    ensures { IfOk result (λ claims. AreClaims (plain patterns.now) making.now chains.now graphs.now (seen claims)) }
 {
     let kept = kept_instances(making, chains, steps)?;
     let setting = making.setting;
     let paths = walked(setting.alloc, &kept, making.variables)?;
-    claims_with(making, &kept, &paths, graphs, steps)
+    let parts = all_parts(making, patterns, &kept, &paths, steps)?;
+    claims_with(making, &kept, &parts, graphs, steps)
 }
 
-// The same for chains whose instances are known, and with these paths walked.
+// The same for chains whose instances are known, where so much lies on the walks of ALL paths.
 fn claims_with<L: Ledger>(
     making: &Making<'_>,
     kept: &[Kept<'_>],
-    paths: &[Sym],
+    parts: &[AllParts],
     graphs: &[u32],
     steps: &mut Steps<L>,
 ) -> Result<Claims, Memory>
-    requires { paths.now ≡ walked kept.now making.now.variables }
-    ensures { IfOk result (λ claims. seen claims ≡ claims_with making.now kept.now graphs.now) }
+    ensures { IfOk result (λ claims. seen claims ≡ claims_with making.now kept.now parts.now graphs.now) }
 {
     Ok(Claims {
-        nodes: all_claimed(making, kept, paths, graphs, steps)?,
-        edges: all_claimed(making, kept, paths, graphs, steps)?,
+        nodes: all_claimed(making, kept, parts, graphs, steps)?,
+        edges: all_claimed(making, kept, parts, graphs, steps)?,
         paths: paths_claimed(making, kept, graphs, steps)?,
     })
 }
@@ -55,16 +61,17 @@ fn claims_with<L: Ledger>(
 fn all_claimed<T: Claim + Part + OnWalk + Drop, L: Ledger>(
     making: &Making<'_>,
     kept: &[Kept<'_>],
-    paths: &[Sym],
+    parts: &[AllParts],
     graphs: &[u32],
     steps: &mut Steps<L>,
 ) -> Result<Vec<T>, Memory>
     ensures { IfOk result (λ claimed. claimed.items ≡ flat_map (claims_for making.now kept.now T.kind (T.claims making.now)) making.now.variables
-        ++ flat_map (λ p. of_ids T.id_of T.all (flat_map T.on (walks_of making.now kept.now p)) (along_graph making.now.setting p)) paths.now
+        ++ flat_map (λ a. of_ids T.id_of T.all (flat_map T.on (walks_of making.now kept.now a.path) ++ T.among a)
+        (along_graph making.now.setting a.path)) parts.now
         ++ in_items making.now.setting.graphs graphs.now T.all) }
 {
     let mut claimed = claimed_by(making, kept, steps)?;
-    add_all_walks(&mut claimed, making, kept, paths, steps)?;
+    add_all_walks(&mut claimed, making, kept, parts, steps)?;
     add_graphs(&mut claimed, making, graphs, steps)?;
     Ok(claimed)
 }
@@ -101,19 +108,20 @@ fn claimed_by<T: Claim + Drop, L: Ledger>(
     Ok(claimed)
 }
 
-// Adds what stands on the walks of these paths.
+// Adds what stands on the walks of paths, and lies on those of ALL paths.
 fn add_all_walks<T: Part + OnWalk + Drop, L: Ledger>(
     claimed: &mut Vec<T>,
     making: &Making<'_>,
     kept: &[Kept<'_>],
-    paths: &[Sym],
+    parts: &[AllParts],
     steps: &mut Steps<L>,
 ) -> Result<(), Memory>
     ensures { OnOk result (claimed.new.items ≡ claimed.old.items
-        ++ flat_map (λ p. of_ids T.id_of T.all (flat_map T.on (walks_of making.now kept.now p)) (along_graph making.now.setting p)) paths.now) }
+        ++ flat_map (λ a. of_ids T.id_of T.all (flat_map T.on (walks_of making.now kept.now a.path) ++ T.among a)
+        (along_graph making.now.setting a.path)) parts.now) }
 {
-    for path in paths {
-        add_walks(claimed, making, kept, *path, steps)?;
+    for one in parts {
+        add_walks(claimed, making, kept, one, steps)?;
     }
     Ok(())
 }

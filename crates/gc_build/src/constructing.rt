@@ -1,17 +1,23 @@
 ghost use Rattle.std.specs.Prelude.{◌≡◌, IfOk};
-ghost use Rattle.gc_build.specs.Claimed.{seen};
-ghost use Rattle.gc_build.specs.Constructed.{Constructs, IsAfter, claims_by};
-ghost use Rattle.gc_sets.specs.Claims.{IsOutcome};
+ghost use Rattle.gc_alg.specs.Views.{block_tree};
+ghost use Rattle.gc_walks.specs.Databases.{AreOnGraphs};
+ghost use Rattle.gc_build.specs.AllPaths.{AreReady, AreSearchable};
+ghost use Rattle.gc_build.specs.Claimed.{AreClaims, seen};
+ghost use Rattle.gc_build.specs.Constructed.{Constructs, IsAfter, IsUnited, making_by};
+ghost use Rattle.gc_build.specs.Patterns.{plain};
 
 use crate::built::{Built, Refusal};
 use crate::claiming::claims;
 use crate::elements::Claims;
 use crate::making::Making;
+use crate::patterns::Patterns;
+use gc_alg::Block;
 use gc_base::{Memory, Steps};
 use gc_build_descriptions::{DescribedList, Refusal as DescribeRefusal, describe};
 use gc_build_numbers::{Numbering, Setting, number};
 use gc_build_recipe::Recipe;
 use gc_ppg::Graph;
+use gc_prod::SegmentTable;
 use gc_sets::unite;
 use std::sync::ledger::Ledger;
 
@@ -21,15 +27,22 @@ const END: u64 = 9_007_199_254_740_992;
 /// The graph that a CONSTRUCT makes of a table, and the identity that comes next, where new elements have
 /// identities from `next` on. It is refused as `Fault` exactly where an assignment is undefined on a row
 /// of a group of its variable, and else as `IdsSpent` exactly where the new identities would pass the
-/// largest. There is `None` exactly where what it claims is no graph. `steps` counts what is read.
+/// largest. There is `None` exactly where what it claims is no graph. What lies on the walks of an ALL path
+/// is looked for by the block of the MATCH and the segments of views on its graphs. `steps` counts what is
+/// read.
 pub fn construct<L: Ledger>(
     setting: &Setting<'_>,
     recipe: &Recipe,
+    block: &Block,
+    segments: &SegmentTable,
     next: u64,
     steps: &mut Steps<L>,
 ) -> Result<Option<Built>, Refusal>
-    ensures { Constructs setting.now recipe.now next result }
+    requires segments { AreOnGraphs setting.now.graphs segments.now }
+    requires searchable { AreSearchable (block_tree block.now) }
+    ensures { Constructs setting.now recipe.now (record { block = block_tree block.now; segments = segments.now }) next result }
 {
+    let patterns = Patterns { block, segments };
     let numbering = number(setting, recipe.variables.as_slice(), steps)?;
     let described = match describe(setting, recipe, &numbering, steps) {
         Ok(described) => described,
@@ -39,7 +52,9 @@ pub fn construct<L: Ledger>(
     let Some(after) = after(next, numbering.next) else {
         return Err(Refusal::IdsSpent(numbering.next));
     };
-    match united(setting, recipe, &numbering, &described, next, steps)? {
+    match united(
+        setting, recipe, &patterns, &numbering, &described, next, steps,
+    )? {
         None => Ok(None),
         Some(graph) => Ok(Some(Built { graph, next: after })),
     }
@@ -60,14 +75,17 @@ fn after(next: u64, needed: u64) -> Option<u64>
 fn united<L: Ledger>(
     setting: &Setting<'_>,
     recipe: &Recipe,
+    patterns: &Patterns<'_>,
     numbering: &Numbering,
     described: &DescribedList,
     next: u64,
     steps: &mut Steps<L>,
 ) -> Result<Option<Graph>, Memory>
-    ensures { IfOk result (IsOutcome (claims_by setting.now recipe.now next numbering.now.variables described.now)) }
+    requires { AreReady setting.now.graphs (plain patterns.now) }
+    ensures { IfOk result (IsUnited (plain patterns.now) (making_by setting.now recipe.now next numbering.now.variables described.now)
+        recipe.now.chains recipe.now.graphs) }
 {
-    let claims = claimed(setting, recipe, numbering, described, next, steps)?;
+    let claims = claimed(setting, recipe, patterns, numbering, described, next, steps)?;
     unite(setting.alloc, claims.nodes, claims.edges, claims.paths)
 }
 
@@ -75,12 +93,15 @@ fn united<L: Ledger>(
 fn claimed<L: Ledger>(
     setting: &Setting<'_>,
     recipe: &Recipe,
+    patterns: &Patterns<'_>,
     numbering: &Numbering,
     described: &DescribedList,
     next: u64,
     steps: &mut Steps<L>,
 ) -> Result<Claims, Memory>
-    ensures { IfOk result (λ claims. seen claims ≡ claims_by setting.now recipe.now next numbering.now.variables described.now) }
+    requires { AreReady setting.now.graphs (plain patterns.now) }
+    ensures { IfOk result (λ claims. AreClaims (plain patterns.now) (making_by setting.now recipe.now next numbering.now.variables described.now)
+        recipe.now.chains recipe.now.graphs (seen claims)) }
 {
     let making = Making {
         setting,
@@ -89,5 +110,11 @@ fn claimed<L: Ledger>(
         described: described.as_slice(),
         next,
     };
-    claims(&making, &recipe.chains, recipe.graphs.as_slice(), steps)
+    claims(
+        &making,
+        patterns,
+        &recipe.chains,
+        recipe.graphs.as_slice(),
+        steps,
+    )
 }

@@ -85,7 +85,7 @@ fn element_ends<L: Ledger>(
             target,
             terms: _,
         } => row_ends(making, *source, *target, element),
-        Grouping::EachRow | Grouping::Terms(_) => Ok(None),
+        Grouping::EachRow | Grouping::Walk | Grouping::Terms(_) => Ok(None),
     }
 }
 

@@ -18,7 +18,7 @@ use std::sync::ledger::Ledger;
 
 /// Elements that are claimed, in any order and some of them several times.
 #[derive(Debug, Drop)]
-pub struct Claims {
+pub(crate) struct Claims {
     pub nodes: Vec<NodeInfo>,
     pub edges: Vec<EdgeInfo>,
     pub paths: Vec<PathInfo>,

@@ -7,11 +7,12 @@ ghost use Rattle.gc_spec.specs.PropertyGraph.{PropertyGraph, is_among};
 ghost use Rattle.gc_build.specs.Claimed.{in_graph, in_items};
 ghost use Rattle.gc_build.specs.Walks.{along_graph, of_ids, walks_of};
 
+use crate::all_paths::AllParts;
 use crate::kept::Kept;
 use crate::listed::{ascending, is_listed};
 use crate::making::Making;
 use crate::walks::{OnWalk, ids_on_walks};
-use gc_base::{Duplicate, Id, Memory, Steps, Sym};
+use gc_base::{Duplicate, Id, Memory, Steps};
 use gc_ppg::{EdgeInfo, Graph, NodeInfo, PathInfo};
 use std::sync::ledger::Ledger;
 
@@ -141,20 +142,22 @@ fn add_copy<T: Part + Drop>(claimed: &mut Vec<T>, element: &T) -> Result<(), Mem
     Ok(())
 }
 
-/// Adds copies of what stands on the walks that a path has in kept instances, as the path's graph has
-/// it.
+/// Adds copies of what stands on the walks that a path has in kept instances, or lies on those that it
+/// stands for there, as the path's graph has it.
 pub(crate) fn add_walks<T: Part + OnWalk + Drop, L: Ledger>(
     claimed: &mut Vec<T>,
     making: &Making<'_>,
     kept: &[Kept<'_>],
-    path: Sym,
+    parts: &AllParts,
     steps: &mut Steps<L>,
 ) -> Result<(), Memory>
     ensures { OnOk result (claimed.new.items ≡ claimed.old.items
-        ++ of_ids T.id_of T.all (flat_map T.on (walks_of making.now kept.now path)) (along_graph making.now.setting path)) }
+        ++ of_ids T.id_of T.all (flat_map T.on (walks_of making.now kept.now parts.now.path) ++ T.among parts.now)
+        (along_graph making.now.setting parts.now.path)) }
 {
-    let ids = ids_on_walks::<T, L>(making, kept, path, steps)?;
-    match making.along_graph(path) {
+    let mut ids = ids_on_walks::<T, L>(making, kept, parts.path, steps)?;
+    ids.extend_from_slice(T::among(parts))?;
+    match making.along_graph(parts.path) {
         None => Ok(()),
         Some(graph) => add_ids(claimed, graph, ids, steps),
     }

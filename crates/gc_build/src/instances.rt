@@ -1,7 +1,7 @@
 ghost use Rattle.std.specs.Prelude.{◌≡◌, ◌&&◌, IfOk, Some, is_some};
 ghost use Rattle.std.specs.List.{list_all};
-ghost use Rattle.std.specs.Option.{option_copied, option_map};
-ghost use Rattle.gc_build.specs.Kept.{has_paths, has_places, holds, is_stored, is_yes, keeps, when_context};
+ghost use Rattle.std.specs.Option.{option_map};
+ghost use Rattle.gc_build.specs.Kept.{has_paths, has_places, holds, is_yes, keeps, when_context};
 ghost use Rattle.gc_build.specs.Makings.{identity_at};
 ghost use Rattle.gc_expr.specs.Views.{numbered_expr};
 ghost use Rattle.gc_rows.specs.Rows.{datum_at};
@@ -11,7 +11,7 @@ use crate::making::Making;
 use gc_base::{Memory, Steps, Sym};
 use gc_build_recipe::Chain;
 use gc_expr::Expr;
-use gc_rows::{Datum, Row};
+use gc_rows::Row;
 use gc_values::{Truth3, truth};
 use std::sync::ledger::Ledger;
 
@@ -54,20 +54,11 @@ fn has_places(making: &Making<'_>, places: &[Sym], place: usize) -> Result<bool,
     Ok(true)
 }
 
-// Whether a row binds each of these variables to a stored path.
+// Whether a row binds each of these variables.
 fn has_paths(paths: &[Sym], row: &Row) -> bool
-    ensures { result ≡ list_all (λ p. is_stored (datum_at row.now p)) paths.now }
+    ensures { result ≡ list_all (λ p. is_some (datum_at row.now p)) paths.now }
 {
-    paths.iter().all(|path| is_stored(row.get(*path)))
-}
-
-fn is_stored(datum: Option<&Datum>) -> bool
-    ensures { result ≡ is_stored (option_copied datum.entry) }
-{
-    match datum {
-        Some(Datum::Stored(_)) => true,
-        _ => false,
-    }
+    paths.iter().all(|path| row.get(*path).is_some())
 }
 
 // Whether a condition, if there is one, is true of what the row at a place makes.
@@ -97,7 +88,7 @@ fn is_true<L: Ledger>(
     ensures { IfOk result (λ is_true. is_true ≡ holds (Some (numbered_expr condition.now)) (when_context making.now place row.now)) }
 {
     let setting = making.setting;
-    let made = all_made(making, place)?;
+    let made = all_made(making, place, row)?;
     let found = truth(
         setting.alloc,
         condition,

@@ -1,45 +1,56 @@
 ghost use Rattle.std.specs.Prelude.{◌≡◌, IfOk, map};
-ghost use Rattle.std.specs.Option.{option_map};
-ghost use Rattle.gc_build.specs.Makings.{all_made, description_at, element_of, made_at};
+ghost use Rattle.std.specs.Option.{option_copied, option_map};
+ghost use Rattle.gc_build.specs.Makings.{all_made, datum_by, description_at, element_of, made_at};
 
 use crate::making::Making;
 use gc_base::{Duplicate, Id, LabelSet, Memory, Properties};
 use gc_build_descriptions::Description;
-use gc_build_recipe::Variable;
+use gc_build_recipe::{Grouping, Variable};
 use gc_ppg::Kind;
-use gc_rows::Datum;
+use gc_rows::{Datum, Row};
 use gc_values::{Made, MadeList};
 
 /// The variables of the CONSTRUCT as the row at a place makes them.
-pub(crate) fn all_made(making: &Making<'_>, place: usize) -> Result<MadeList, Memory>
-    ensures { IfOk result (λ made. made ≡ all_made making.now place) }
+pub(crate) fn all_made(making: &Making<'_>, place: usize, row: &Row) -> Result<MadeList, Memory>
+    ensures { IfOk result (λ made. made ≡ all_made making.now place row.now) }
 {
-    let made = each_made(making, making.variables, place)?;
+    let made = each_made(making, making.variables, place, row)?;
     Ok(MadeList::from_vec(made))
 }
 
 // Each of these variables as the row at a place makes it.
-fn each_made(making: &Making<'_>, variables: &[Variable], place: usize) -> Result<Vec<Made>, Memory>
-    ensures { IfOk result (λ made. made.items ≡ map (made_at making.now place) variables.now) }
+fn each_made(
+    making: &Making<'_>,
+    variables: &[Variable],
+    place: usize,
+    row: &Row,
+) -> Result<Vec<Made>, Memory>
+    ensures { IfOk result (λ made. made.items ≡ map (made_at making.now place row.now) variables.now) }
 {
     let setting = making.setting;
     let mut made = Vec::with_capacity(setting.alloc, variables.len())?;
     for variable in variables {
-        made.push(made_at(making, place, variable)?)?;
+        made.push(made_at(making, place, row, variable)?)?;
     }
     Ok(made)
 }
 
 // A variable as the row at a place makes it.
 #[tactic(auto, unfolding(crate::specs::Makings::made_at))]
-fn made_at(making: &Making<'_>, place: usize, variable: &Variable) -> Result<Made, Memory>
-    ensures { IfOk result (λ made. made ≡ made_at making.now place variable.now) }
+fn made_at(
+    making: &Making<'_>,
+    place: usize,
+    row: &Row,
+    variable: &Variable,
+) -> Result<Made, Memory>
+    ensures { IfOk result (λ made. made ≡ made_at making.now place row.now variable.now) }
 {
     let id = making.identity_of(place, variable)?;
+    let datum = datum_by(variable, row.get(variable.var), id)?;
     let description = described(making, variable, place)?;
     Ok(Made {
         var: variable.var,
-        datum: datum(variable.kind, id),
+        datum,
         labels: description.labels,
         properties: description.properties,
     })
@@ -62,8 +73,31 @@ fn described(making: &Making<'_>, variable: &Variable, place: usize) -> Result<D
     }
 }
 
+// What a variable stands for on a row, where the row makes an element of this identity of it.
+fn datum_by(
+    variable: &Variable,
+    on_row: Option<&Datum>,
+    id: Option<Id>,
+) -> Result<Option<Datum>, Memory>
+    ensures { IfOk result (λ datum. datum ≡ datum_by variable.now.grouping variable.now.kind (option_copied on_row.entry) id) }
+{
+    match &variable.grouping {
+        Grouping::Walk => copied(on_row),
+        _ => Ok(element(variable.kind, id)),
+    }
+}
+
+fn copied(datum: Option<&Datum>) -> Result<Option<Datum>, Memory>
+    ensures { IfOk result (λ copied. copied ≡ option_copied datum.entry) }
+{
+    match datum {
+        None => Ok(None),
+        Some(datum) => Ok(Some(datum.copy()?)),
+    }
+}
+
 // An element of a kind as what a variable stands for.
-fn datum(kind: Kind, id: Option<Id>) -> Option<Datum>
+fn element(kind: Kind, id: Option<Id>) -> Option<Datum>
     ensures { result ≡ option_map (element_of kind) id }
 {
     match id {

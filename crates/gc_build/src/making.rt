@@ -16,7 +16,7 @@ use std::marker::Model;
 
 /// What is read, the variables of a CONSTRUCT, their elements with descriptions, and the next identity.
 #[derive(Drop)]
-pub struct Making<'a> {
+pub(crate) struct Making<'a> {
     pub setting: &'a Setting<'a>,
     pub variables: &'a [Variable],
     pub numbered: &'a [Numbered],

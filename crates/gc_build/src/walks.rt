@@ -5,8 +5,10 @@ ghost use Rattle.gc_base.specs.declared.walk.Walk.{Walk as WalkSeen};
 ghost use Rattle.gc_base.specs.Walks.{edges_of};
 ghost use Rattle.gc_rows.specs.Rows.{datum_at};
 ghost use Rattle.gc_values.specs.PathParts.{nodes_along, walk_in};
+ghost use Rattle.gc_build.specs.declared.all_paths.AllParts.{AllParts as AllPartsSeen};
 ghost use Rattle.gc_build.specs.Walks.{read_graph, walk_if, walks_from, walks_of};
 
+use crate::all_paths::AllParts;
 use crate::kept::{Kept, has_walk};
 use crate::making::Making;
 use crate::paths::stored_walk;
@@ -20,13 +22,22 @@ pub(crate) trait OnWalk {
     /// The identities of those on a walk.
     ghost on: { WalkSeen → List ℕ };
 
+    /// Those that lie on the walks of an ALL path.
+    ghost among: { AllPartsSeen → List ℕ };
+
     // Adds the identities of those on a walk.
     fn add_ids(ids: &mut Vec<Id>, walk: &Walk) -> Result<(), Memory>
         ensures { OnOk result (ids.new.items ≡ ids.old.items ++ on walk.now) };
+
+    // Those that lie on the walks of an ALL path.
+    fn among(parts: &AllParts) -> &[Id]
+        ensures { result.now ≡ among parts.now };
 }
 
 impl OnWalk for NodeInfo {
     ghost on = { nodes_along };
+
+    ghost among = { λ parts. parts.nodes };
 
     fn add_ids(ids: &mut Vec<Id>, walk: &Walk) -> Result<(), Memory> {
         ids.push(walk.start)?;
@@ -35,16 +46,26 @@ impl OnWalk for NodeInfo {
         }
         Ok(())
     }
+
+    fn among(parts: &AllParts) -> &[Id] {
+        parts.nodes.as_slice()
+    }
 }
 
 impl OnWalk for EdgeInfo {
     ghost on = { edges_of };
+
+    ghost among = { λ parts. parts.edges };
 
     fn add_ids(ids: &mut Vec<Id>, walk: &Walk) -> Result<(), Memory> {
         for step in walk.steps.as_slice() {
             ids.push(step.edge)?;
         }
         Ok(())
+    }
+
+    fn among(parts: &AllParts) -> &[Id] {
+        parts.edges.as_slice()
     }
 }
 

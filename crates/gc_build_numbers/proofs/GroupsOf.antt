@@ -38,6 +38,7 @@ numbered_keys n (g ∷ gs) = λ j. g.key ∷ numbered_keys (n + 1) gs j
 pub element_keys : (grouping : Grouping) (n : ℕ) (gs : List Group) → map (λ (e : Element). e.group.key) (elements_by grouping n gs) ≡ map (λ g. g.key) gs
 element_keys by.Bound n gs = bound_keys gs
 element_keys by.EachRow n gs = numbered_keys n gs
+element_keys by.Walk n gs = numbered_keys n gs
 element_keys (by.Terms terms) n gs = numbered_keys n gs
 element_keys (by.Link source target terms) n gs = numbered_keys n gs
 

@@ -66,10 +66,19 @@ whole parts = if list_all is_some parts then Some (record { parts = parts }) els
 abbrev pub bound_key : Option Datum → Option Key
 bound_key d = option_map (λ id. record { parts = d ∷ [] }) (option_and_then id_of d)
 
+-- one that stands for a walk that was found, by the walk
+abbrev pub single_key : Datum → Option Key
+single_key d = Some (record { parts = Some d ∷ [] })
+
+abbrev pub walk_key : Option Datum → Option Key
+walk_key (Some (datum.Found walk)) = single_key (datum.Found walk)
+walk_key d = None
+
 -- the key of a row at a place in the table; a whole row is a key with what is unbound in it
 abbrev pub key_by : Setting → List Numbered → Sym → Grouping → ℕ → List Binding → Option Key
 key_by s before x by.Bound place row = bound_key (datum_at row x)
 key_by s before x by.EachRow place row = Some (record { parts = cells s.schema row })
+key_by s before x by.Walk place row = walk_key (datum_at row x)
 key_by s before x (by.Terms terms) place row = whole (map (term_part (on_row s row)) terms)
 key_by s before x (by.Link source target terms) place row =
     whole (end_part before source place ∷ end_part before target place ∷ map (term_part (on_row s row)) terms)

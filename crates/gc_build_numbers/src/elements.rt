@@ -25,7 +25,7 @@ pub(crate) fn elements(
 {
     match grouping {
         Grouping::Bound => bound(alloc, groups),
-        Grouping::EachRow | Grouping::Terms(_) => numbered(alloc, next, groups),
+        Grouping::EachRow | Grouping::Walk | Grouping::Terms(_) => numbered(alloc, next, groups),
         Grouping::Link {
             source: _,
             target: _,
@@ -40,7 +40,7 @@ pub(crate) fn taken_by(grouping: &Grouping, groups: &[Group]) -> u64
 {
     match grouping {
         Grouping::Bound => 0,
-        Grouping::EachRow | Grouping::Terms(_) => groups.len() as u64,
+        Grouping::EachRow | Grouping::Walk | Grouping::Terms(_) => groups.len() as u64,
         Grouping::Link {
             source: _,
             target: _,

@@ -1,7 +1,7 @@
 ghost use Rattle.std.specs.Prelude.{◌≡◌, ◌==◌, ◌++◌, IfOk, OnOk, is_some, map};
 ghost use Rattle.std.specs.List.{find, list_all};
 ghost use Rattle.std.specs.Option.{option_copied};
-ghost use Rattle.gc_build_numbers.specs.Keys.{bound_key, end_part, id_of, key_by, keys_of, number_at, term_part, whole};
+ghost use Rattle.gc_build_numbers.specs.Keys.{bound_key, end_part, id_of, key_by, keys_of, number_at, single_key, term_part, walk_key, whole};
 ghost use Rattle.gc_build_numbers.specs.Readers.{terms_of};
 ghost use Rattle.gc_build_numbers.specs.Settings.{on_row};
 ghost use Rattle.gc_build_numbers.specs.WholeRows.{row_key};
@@ -70,6 +70,7 @@ impl Placed<'_> {
                 let schema = setting.table.schema().as_slice();
                 Ok(Some(key_of(cells(alloc, schema, self.row)?)))
             }
+            Grouping::Walk => walk_key(alloc, self.row.get(variable.var)),
             Grouping::Terms(_) => {
                 let mut parts = Vec::with_capacity(alloc, readers.len())?;
                 self.read(readers, &mut parts, steps)?;
@@ -142,12 +143,29 @@ fn bound_key(alloc: Global, datum: Option<&Datum>) -> Result<Option<Key>, Memory
 {
     match datum {
         Some(datum @ (Datum::Node(_) | Datum::Edge(_) | Datum::Stored(_))) => {
-            let mut parts = Vec::with_capacity(alloc, 1)?;
-            parts.push(Some(datum.copy()?))?;
-            Ok(Some(key_of(parts)))
+            single_key(alloc, datum)
         }
         _ => Ok(None),
     }
+}
+
+// The key for a variable that stands for a walk that was found.
+fn walk_key(alloc: Global, datum: Option<&Datum>) -> Result<Option<Key>, Memory>
+    ensures { IfOk result (λ key. key ≡ walk_key (option_copied datum.entry)) }
+{
+    match datum {
+        Some(datum @ Datum::Found(_)) => single_key(alloc, datum),
+        _ => Ok(None),
+    }
+}
+
+// The key that is a datum alone.
+fn single_key(alloc: Global, datum: &Datum) -> Result<Option<Key>, Memory>
+    ensures { IfOk result (λ key. key ≡ single_key datum.now) }
+{
+    let mut parts = Vec::with_capacity(alloc, 1)?;
+    parts.push(Some(datum.copy()?))?;
+    Ok(Some(key_of(parts)))
 }
 
 /// The key that is a whole row.

@@ -72,7 +72,7 @@ pub(crate) fn readers(alloc: Global, grouping: &Grouping) -> Result<Vec<Reader<'
     ensures { IfOk result (λ readers. readers.items ≡ terms_of grouping.now) }
 {
     match grouping {
-        Grouping::Bound | Grouping::EachRow => Ok(Vec::new(alloc)),
+        Grouping::Bound | Grouping::EachRow | Grouping::Walk => Ok(Vec::new(alloc)),
         Grouping::Terms(terms) => readers_of(alloc, terms.as_slice()),
         Grouping::Link {
             source: _,

@@ -30,4 +30,4 @@ abbrev pub copied_in : Copies → Sym → Option Sym
 copied_in copies x = get nat_eq copies.copied x.0
 
 abbrev pub makings_in : Index → Makings
-makings_in i = record { is_bound = has i.bound; terms = terms_in i.terms; copied = copied_in i.copies }
+makings_in i = record { is_bound = has i.bound; is_found = has i.found; terms = terms_in i.terms; copied = copied_in i.copies }

@@ -1,3 +1,4 @@
+pub mod FoundPaths
 pub mod Indexes
 pub mod Items
 pub mod Namings

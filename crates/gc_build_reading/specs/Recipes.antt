@@ -11,15 +11,19 @@ use Rattle.gc_build_reading.specs.Items.{item_labels, item_assignments, item_los
 use Rattle.gc_build_reading.specs.Places.{places_of}
 use Rattle.gc_build_reading.specs.Variables.{Makings, copied_by, first_places, own_terms, variables_at}
 
--- what items say of the making of variables, where the MATCH binds these
-abbrev pub makings_of : Scope → (bound : List Sym) → Tree (RowOf AnItem) → Makings
-makings_of s bound items =
-    record { is_bound = lists bound; terms = own_terms (all_of (item_terms s) items); copied = copied_by (all_of (item_copies s) items) }
+-- what items say of the making of variables, where the MATCH binds these, and its found path patterns those
+abbrev pub makings_of : Scope → (bound found : List Sym) → Tree (RowOf AnItem) → Makings
+makings_of s bound found items = record {
+  is_bound = lists bound;
+  is_found = lists found;
+  terms = own_terms (all_of (item_terms s) items);
+  copied = copied_by (all_of (item_copies s) items);
+}
 
 -- the recipe of items
-abbrev pub recipe_by : Scope → (bound : List Sym) → Tree (RowOf AnItem) → Recipe
-recipe_by s bound items = record {
-  variables = variables_at (makings_of s bound items) (first_places (places_of s items));
+abbrev pub recipe_by : Scope → (bound found : List Sym) → Tree (RowOf AnItem) → Recipe
+recipe_by s bound found items = record {
+  variables = variables_at (makings_of s bound found items) (first_places (places_of s items));
   labels = all_of (item_labels s) items;
   assignments = all_of (item_assignments s) items;
   lost_labels = all_of (item_lost_labels s) items;
@@ -28,6 +32,6 @@ recipe_by s bound items = record {
   graphs = all_of (item_graphs s) items;
 }
 
--- the recipe of a CONSTRUCT, where its MATCH binds these variables
-abbrev pub recipe_of : Scope → (bound : List Sym) → Tree ABasic → Recipe
-recipe_of s bound (tree.Basic token items main optionals) = recipe_by s bound items
+-- the recipe of a CONSTRUCT, where its MATCH binds these variables, and its found path patterns those
+abbrev pub recipe_of : Scope → (bound found : List Sym) → Tree ABasic → Recipe
+recipe_of s bound found (tree.Basic token items main optionals) = recipe_by s bound found items

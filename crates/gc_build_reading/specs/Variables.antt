@@ -6,7 +6,7 @@ use Rattle.gc_base.specs.declared.place.Sym.{Sym}
 use Rattle.gc_ppg.specs.declared.shape.Kind.{Kind}
 use Rattle.gc_ppg.specs.declared.shape.Kind.TheVariants as kind
 use Rattle.gc_build_recipe.specs.declared.variable.Grouping.{Grouping}
-use Rattle.gc_build_recipe.specs.declared.variable.Grouping.TheVariants.{Bound, EachRow, Terms, Link}
+use Rattle.gc_build_recipe.specs.declared.variable.Grouping.TheVariants.{Bound, EachRow, Walk, Terms, Link}
 use Rattle.gc_build_recipe.specs.declared.variable.Term.{Term}
 use Rattle.gc_build_recipe.specs.declared.variable.Variable.{Variable}
 use Rattle.gc_build_reading.specs.declared.place.Ends.{Ends}
@@ -16,9 +16,11 @@ use Rattle.gc_build_reading.specs.declared.terms.TermOf.{TermOf}
 
 -- Take `(x GROUP n.k)-[y]->(z =n), (x)` where the MATCH binds n: x is grouped by n.k, z by n, with which it starts, and y by x and z.
 
--- what is said of the making of a variable: whether the MATCH binds it, its GROUP terms, and the variable that it copies
+-- what is said of the making of a variable: whether the MATCH binds it, and whether a found path pattern does; its GROUP terms, and
+-- the variable that it copies
 pub record Makings : Type 0 where
   pub is_bound : Sym → Bool
+  pub is_found : Sym → Bool
   pub terms : Sym → List Term
   pub copied : Sym → Option Sym
 
@@ -44,10 +46,16 @@ new_grouping (Some ends) terms = Link ends.source ends.target terms
 new_grouping None [] = EachRow
 new_grouping None (t ∷ terms) = Terms (t ∷ terms)
 
-abbrev pub grouping_of : Makings → Place → Grouping
-grouping_of m p = if m.is_bound p.var then Bound else new_grouping p.ends (all_terms m p.var)
+-- by what a bound variable is grouped: a found walk by the walk, of which a new path is made, and else by the element that it is
+abbrev pub bound_grouping : (is_found : Bool) → Grouping
+bound_grouping true = Walk
+bound_grouping false = Bound
 
--- with whose labels and properties a variable starts: its own where it is bound, else those of what it copies
+abbrev pub grouping_of : Makings → Place → Grouping
+grouping_of m p = if m.is_bound p.var then bound_grouping (m.is_found p.var) else new_grouping p.ends (all_terms m p.var)
+
+-- with whose labels and properties a variable starts: its own where it is bound, of which a found walk has none, else those of what
+-- it copies
 abbrev pub start_of : Makings → Sym → Option Sym
 start_of m x = if m.is_bound x then Some x else m.copied x
 

@@ -131,25 +131,31 @@ impl Copies {
 #[derive(Drop)]
 pub(crate) struct Index {
     pub bound: Vars,
+    pub found: Vars,
     pub terms: Terms,
     pub copies: Copies,
 }
 
 impl Index {
-    /// Of the variables that the MATCH binds, the GROUP terms and the copies.
+    /// Of the variables that the MATCH binds, those of them that found path patterns bind, the GROUP
+    /// terms and the copies.
     pub(crate) fn of(
         alloc: Global,
         bound: &[Sym],
+        found: &[Sym],
         terms: TermOfList,
         copies: &[CopyOf],
     ) -> Result<Index, Memory>
-        ensures { IfOk result (λ index. makings_in index ≡ record { is_bound = lists bound.now; terms = own_terms terms; copied = copied_by copies.now }) }
+        ensures { IfOk result (λ index. makings_in index
+            ≡ record { is_bound = lists bound.now; is_found = lists found.now; terms = own_terms terms; copied = copied_by copies.now }) }
     {
         let bound = Vars::of(alloc, bound)?;
+        let found = Vars::of(alloc, found)?;
         let terms = Terms::of(alloc, terms)?;
         let copies = Copies::of(alloc, copies)?;
         Ok(Index {
             bound,
+            found,
             terms,
             copies,
         })

@@ -1,6 +1,6 @@
 ghost use Rattle.std.specs.Prelude.{◌≡◌, ◌++◌, None, map, IfOk, OnOk};
 ghost use Rattle.gc_build_reading.specs.Indexes.{makings_in};
-ghost use Rattle.gc_build_reading.specs.Variables.{all_terms, grouping_of, is_of, new_grouping, of_kind, start_of, variable_at, variable_term, variables_at};
+ghost use Rattle.gc_build_reading.specs.Variables.{all_terms, bound_grouping, grouping_of, is_of, new_grouping, of_kind, start_of, variable_at, variable_term, variables_at};
 
 use crate::index::Index;
 use crate::place::{Ends, Place};
@@ -82,10 +82,21 @@ fn grouping_of(alloc: Global, index: &Index, place: Place) -> Result<Grouping, M
     ensures { IfOk result (λ g. g ≡ grouping_of (makings_in index.now) place) }
 {
     if index.bound.has(place.var) {
-        return Ok(Grouping::Bound);
+        return Ok(bound_grouping(index.found.has(place.var)));
     }
     let terms = all_terms(alloc, index, place.var)?;
     Ok(new_grouping(place.ends, terms))
+}
+
+// By what rows are grouped for a bound variable.
+fn bound_grouping(is_found: bool) -> Grouping
+    ensures { result ≡ bound_grouping is_found }
+{
+    if is_found {
+        Grouping::Walk
+    } else {
+        Grouping::Bound
+    }
 }
 
 // By what rows are grouped for a new element.

@@ -19,6 +19,8 @@ pub enum Grouping {
     Bound,
     /// By the whole row.
     EachRow,
+    /// By the walk that the MATCH found for the variable.
+    Walk,
     /// By terms, of which the variable that is copied is the last.
     Terms(TermList),
     /// By the source and the target of an edge, and then by terms.

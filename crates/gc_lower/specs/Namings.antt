@@ -7,6 +7,7 @@ use Rattle.gc_sorts.specs.Reads.{graph_at, view_at, hidden_from}
 use Rattle.gc_sorts.specs.declared.checked.Checked.{Checked}
 use Rattle.gc_base.specs.declared.place.Sym.{Sym}
 use Rattle.gc_expr.specs.Views.{Names, name_of}
+use Rattle.gc_lower.specs.PathHeads.{path_heads}
 use Rattle.gc_lower.specs.Scopes.{Scope, variable_of}
 use Rattle.gc_lower.specs.declared.naming.Naming.{Naming}
 
@@ -28,6 +29,7 @@ scope_in f on =
       graph_at = graph_at (occurrences_of f);
       view_at = view_at (occurrences_of f);
       hidden_at = hidden_from (length f.names) (occurrences_of f);
+      views = path_heads (row f.statements);
       on = on;
     }
 

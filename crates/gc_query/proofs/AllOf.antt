@@ -20,7 +20,7 @@ fails p xs i x at failed rest = sym (ap (list_all p) (drop_at xs i x at) ∙ ap 
 pub passes : {X : Type 0} (p : X → Bool) (xs : List X) (i : ℕ) (x : X) → slice_get xs i ≡ Some x → p x ≡ true → list_all p (drop i xs) ≡ list_all p xs → list_all p (drop (i + 1) xs) ≡ list_all p xs
 passes p xs i x at passed rest = sym (ap (list_all p) (drop_at xs i x at) ∙ ap (λ b. b && list_all p (drop (i + 1) xs)) passed) ∙ rest
 
-over_two : {X : Type 0} (p : X → Bool) (xs ys : List X) → list_all p (xs ++ ys) ≡ (list_all p xs && list_all p ys)
+pub over_two : {X : Type 0} (p : X → Bool) (xs ys : List X) → list_all p (xs ++ ys) ≡ (list_all p xs && list_all p ys)
 over_two p [] ys = refl
 over_two p (x ∷ xs) ys = ap (λ b. p x && b) (over_two p xs ys) ∙ grouped (p x) (list_all p xs) (list_all p ys)
   where
@@ -95,3 +95,9 @@ pub got : {X : Type 0} (xs : List X) (i : ℕ) (x : X) → i < length xs → x �
 got [] i x within read = absurd (omega (arith, within))
 got (y ∷ ys) zero x within read = ap Some (sym read)
 got (y ∷ ys) (suc i) x within read = got ys i x (omega (arith, within)) read
+
+-- the item at a place that a list has, whatever stands for one that it lacks
+pub at_place : {X : Type 0} (xs : List X) (i : ℕ) (d : X) → i < length xs → slice_get xs i ≡ Some (get_or xs i d)
+at_place [] i d within = absurd (omega (arith, within))
+at_place (y ∷ ys) zero d within = refl
+at_place (y ∷ ys) (suc i) d within = at_place ys i d (omega (arith, within))

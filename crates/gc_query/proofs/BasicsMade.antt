@@ -1,67 +1,54 @@
--- What a CONSTRUCT comes to, by its table, its recipe and what is made of them.
-use Rattle.std.proofs.Common.{◌≡◌, ℕ, List, [], Option, Some, None, Result, Ok, Err, refl, sym, ap, subst, ◌∙◌, arith}
+-- What a CONSTRUCT comes to, by the segments that its MATCH uses, its table, its recipe and what is made of them.
+use Rattle.std.proofs.Common.{◌≡◌, ℕ, List, [], Option, Some, None, Result, Ok, Err, refl, sym, ap, subst, arith}
 use Rattle.gc_ast.specs.QueryViews.{basic_tree}
 use Rattle.gc_ast.specs.declared.query.Basic.{Basic, out-Basic}
-use Rattle.gc_alg.specs.Networks.{Database}
-use Rattle.gc_alg.specs.Plans.{Means, PlanTree}
-use Rattle.gc_alg.specs.Tables.{IsTableOfBlock, IsTableOfPlan}
+use Rattle.gc_alg.specs.Tables.{IsTableOfBlock}
 use Rattle.gc_alg.specs.Trees.{Tree, ABlock, reads_of}
 use Rattle.gc_alg.specs.Views.{block_tree}
 use Rattle.gc_alg.specs.declared.block.Block.{Block, out-Block}
 use Rattle.gc_alg.proofs.Layers.{block_is}
+use Rattle.gc_build.specs.AllPaths.{Patterns}
 use Rattle.gc_build.specs.Constructed.{Constructs}
 use Rattle.gc_build.specs.declared.built.Built.{Built}
 use Rattle.gc_build.specs.declared.built.Refusal.{Refusal}
 use Rattle.gc_build.specs.declared.built.Refusal.TheVariants as build
 use Rattle.gc_build_numbers.specs.Settings.{Setting}
+use Rattle.gc_build_reading.specs.FoundPaths.{found_variables}
 use Rattle.gc_build_reading.specs.Recipes.{recipe_of}
 use Rattle.gc_build_recipe.specs.Recipes.{Recipe}
-use Rattle.gc_exec.specs.Runs.{setting, without_segments}
+use Rattle.gc_exec.specs.Runs.{setting}
 use Rattle.gc_expr.specs.Views.{Names}
 use Rattle.gc_lower.specs.Blocks.{block_of}
 use Rattle.gc_lower.specs.Scopes.{Scope}
 use Rattle.gc_lower.proofs.TreeParts.{basic_parts}
+use Rattle.gc_prod.specs.Segments.{Segments}
 use Rattle.gc_rows.specs.Tables.{Relation}
-use Rattle.gc_rows.specs.declared.row.Binding.{Binding}
-use Rattle.gc_spec.specs.PropertyGraph.{PropertyGraph}
-use Rattle.gc_values.specs.declared.reads.ReadUse.{ReadUse}
 use Rattle.gc_query.specs.Answered.{IsAnswered, Rises, outcome_of}
-use Rattle.gc_query.specs.Basics.{ComesTo, DenotesBasic, read_on, token_of}
+use Rattle.gc_query.specs.Basics.{Comes, ComesTo, DenotesBasic, OnTable, WithCosts, token_of}
+use Rattle.gc_query.specs.Costs.{costs_of, first_past}
+use Rattle.gc_query.specs.Segments.{HasSegments}
 use Rattle.gc_query.specs.Standings.{Standing, Made}
+use Rattle.gc_query.specs.declared.costs.PastAt.{PastAt}
 use Rattle.gc_query.specs.declared.fault.Fault.{Fault}
+use Rattle.gc_query.specs.declared.fault.Fault.TheVariants.{CostPastRange}
 use Rattle.gc_query.specs.declared.fault.QueryRefusal.{QueryRefusal}
-use Rattle.gc_query.proofs.Outcomes.{passes_on}
-
-module _ (graphs : List PropertyGraph) (block : Tree ABlock) where
-  -- the table of a plan that means a block, for nothing given, is the table of the block
-  of_block : (p : PlanTree) (table : Relation) → Means (without_segments graphs) block p → IsTableOfPlan (setting graphs block []) p table → IsTableOfBlock (setting graphs block []) table
-  of_block p table means t =
-      record {
-        over = t.over;
-        rows = t.rows;
-        sound = λ row m. (means [] tt row).0 (t.sound row m);
-        complete = λ row h. t.complete row ((means [] tt row).1 h);
-      }
-
-  pub table_is : (p : PlanTree) (given : List Binding) (table : Relation) → ((db : Database) → Means db block p) → given ≡ []
-      → IsTableOfPlan (setting graphs block given) p table → IsTableOfBlock (setting graphs block []) table
-  table_is p given table means none t = of_block p table (means (without_segments graphs)) (subst (λ row. IsTableOfPlan (setting graphs block row) p table) none t)
 
 -- what a CONSTRUCT on a table comes to is an outcome of the query
-pub comes : (s : Setting) (r : Recipe) (next token : ℕ) (outcome : Result (Option Built) Refusal) → Constructs s r next outcome → IsAnswered (ComesTo s r next token) (outcome_of token outcome)
-comes s r next token (Ok (Some b)) h = h
-comes s r next token (Ok None) h = h
-comes s r next token (Err (build.Fault f)) h = h
-comes s r next token (Err (build.IdsSpent count)) h = (refl, h)
-comes s r next token (Err build.Memory) h = tt
+comes : (s : Setting) (r : Recipe) (ps : Patterns) (next token : ℕ) (outcome : Result (Option Built) Refusal) → Constructs s r ps next outcome
+    → IsAnswered (ComesTo s r ps next token) (outcome_of token outcome)
+comes s r ps next token (Ok (Some b)) h = h
+comes s r ps next token (Ok None) h = h
+comes s r ps next token (Err (build.Fault f)) h = h
+comes s r ps next token (Err (build.IdsSpent count)) h = (refl, h)
+comes s r ps next token (Err build.Memory) h = tt
 
 -- after it the next identity is no less, and at most one more than the largest
-pub rises : (s : Setting) (r : Recipe) (next token : ℕ) (outcome : Result (Option Built) Refusal) → Constructs s r next outcome → Rises next (outcome_of token outcome)
-rises s r next token (Ok (Some b)) h = (omega (arith, h.after), omega (arith, h.after, h.sound.room))
-rises s r next token (Ok None) h = tt
-rises s r next token (Err (build.Fault f)) h = tt
-rises s r next token (Err (build.IdsSpent count)) h = tt
-rises s r next token (Err build.Memory) h = tt
+pub rises : (s : Setting) (r : Recipe) (ps : Patterns) (next token : ℕ) (outcome : Result (Option Built) Refusal) → Constructs s r ps next outcome → Rises next (outcome_of token outcome)
+rises s r ps next token (Ok (Some b)) h = (omega (arith, h.after), omega (arith, h.after, h.sound.room))
+rises s r ps next token (Ok None) h = tt
+rises s r ps next token (Err (build.Fault f)) h = tt
+rises s r ps next token (Err (build.IdsSpent count)) h = tt
+rises s r ps next token (Err build.Memory) h = tt
 
 reads_are : (b : Block) → reads_of (block_tree b) ≡ (out-Block b).reads
 reads_are b = ap reads_of (block_is b)
@@ -69,26 +56,62 @@ reads_are b = ap reads_of (block_is b)
 token_is : (names : Names) (b : Basic) → token_of (basic_tree names b) ≡ (out-Basic b).token
 token_is names b = ap token_of (basic_parts names b)
 
--- a CONSTRUCT, by the block of its MATCH, the table of that, its recipe, and what is made of these
-module _ (s : Scope) (names : Names) (at : Standing) (basic : Basic) (block : Block) (is : block_tree block ≡ block_of s [] (basic_tree names basic)) (table : Relation)
-    (matched : IsTableOfBlock (setting at.graphs (block_tree block) []) table) where
-  denotes : (outcome : Result Made Fault) → ComesTo (record { schema = table.schema; rows = table.rows; reads = (out-Block block).reads; graphs = at.graphs }) (recipe_of s table.schema (basic_tree names basic)) at.next (out-Basic basic).token outcome
-      → DenotesBasic s at (basic_tree names basic) outcome
-  denotes outcome made =
-      record {
-        table = table;
-        matched = subst (λ (b : Tree ABlock). IsTableOfBlock (setting at.graphs b []) table) is matched;
-        made =
-            subst (λ token. ComesTo (read_on s at (basic_tree names basic) table) (recipe_of s table.schema (basic_tree names basic)) at.next token outcome) (sym (token_is names basic))
-            (subst (λ (reads : List ReadUse). ComesTo (record { schema = table.schema; rows = table.rows; reads = reads; graphs = at.graphs }) (recipe_of s table.schema (basic_tree names basic)) at.next (out-Basic basic).token outcome)
-            (sym (reads_are block) ∙ ap reads_of is) made);
-      }
+-- a CONSTRUCT, by the block of its MATCH
+module _ (s : Scope) (names : Names) (at : Standing) (basic : Basic) (block : Block) (is : block_tree block ≡ block_of s [] (basic_tree names basic)) where
+  -- on the table of its MATCH
+  module _ (segments : List Segments) (table : Relation) where
+    abbrev asked : Tree ABlock → Recipe
+    asked b = recipe_of s table.schema (found_variables b) (basic_tree names basic)
 
-  pub basic_is : (bound_r : Recipe) → bound_r ≡ recipe_of s table.schema (basic_tree names basic) → (outcome : Result (Option Built) Refusal)
-      → Constructs (record { schema = table.schema; rows = table.rows; reads = (out-Block block).reads; graphs = at.graphs }) bound_r at.next outcome
-      → (result : Result Made QueryRefusal) → result ≡ outcome_of (out-Basic basic).token outcome → IsAnswered (DenotesBasic s at (basic_tree names basic)) result
-  basic_is r same outcome made result told =
-      let S : Setting = record { schema = table.schema; rows = table.rows; reads = (out-Block block).reads; graphs = at.graphs } in
-      let right : Constructs S (recipe_of s table.schema (basic_tree names basic)) at.next outcome = subst (λ (x : Recipe). Constructs S x at.next outcome) same made in
-      passes_on (DenotesBasic s at (basic_tree names basic)) (ComesTo S (recipe_of s table.schema (basic_tree names basic)) at.next (out-Basic basic).token) result denotes
-      (subst (IsAnswered (ComesTo S (recipe_of s table.schema (basic_tree names basic)) at.next (out-Basic basic).token)) (sym told) (comes S (recipe_of s table.schema (basic_tree names basic)) at.next (out-Basic basic).token outcome right))
+    abbrev patterns : Tree ABlock → Patterns
+    patterns b = record { block = b; segments = segments }
+
+    abbrev read_by : Tree ABlock → Setting
+    read_by b = record { schema = table.schema; rows = table.rows; reads = reads_of b; graphs = at.graphs }
+
+    abbrev pub read_in : Setting
+    read_in = record { schema = table.schema; rows = table.rows; reads = (out-Block block).reads; graphs = at.graphs }
+
+    abbrev MadeBy : Tree ABlock → (token : ℕ) → Result Made QueryRefusal → Type 0
+    MadeBy b token result = IsAnswered (ComesTo (read_by b) (asked b) (patterns b) at.next token) result
+
+    pub table_comes : (r : Recipe) → r ≡ asked (block_tree block) → (outcome : Result (Option Built) Refusal) → Constructs read_in r (patterns (block_tree block)) at.next outcome
+        → (result : Result Made QueryRefusal) → result ≡ outcome_of (out-Basic basic).token outcome → IsAnswered (Comes s at (basic_tree names basic) segments table) result
+    table_comes r same outcome made result told =
+        let S : Setting = record { schema = table.schema; rows = table.rows; reads = reads_of (block_tree block); graphs = at.graphs } in
+        let there : read_in ≡ S = λ i. record { schema = table.schema; rows = table.rows; reads = sym (reads_are block) i; graphs = at.graphs } in
+        let right : Constructs S (asked (block_tree block)) (patterns (block_tree block)) at.next outcome =
+        subst (λ (x : Recipe). Constructs S x (patterns (block_tree block)) at.next outcome) same (subst (λ (x : Setting). Constructs x r (patterns (block_tree block)) at.next outcome) there made) in
+        let here : MadeBy (block_tree block) (out-Basic basic).token result =
+        subst (MadeBy (block_tree block) (out-Basic basic).token) (sym told) (comes S (asked (block_tree block)) (patterns (block_tree block)) at.next (out-Basic basic).token outcome right) in
+        subst (λ token. MadeBy (block_of s [] (basic_tree names basic)) token result) (sym (token_is names basic)) (subst (λ (b : Tree ABlock). MadeBy b (out-Basic basic).token result) is here)
+
+  abbrev Basic-denotes : Result Made Fault → Type 0
+  Basic-denotes = DenotesBasic s at (basic_tree names basic)
+
+  -- a fault of a view
+  pub view_fails : (fault : Fault) → HasSegments s at.graphs (block_tree block) (Err fault) → Basic-denotes (Err fault)
+  view_fails fault h = record { segments = Err fault; used = subst (λ (b : Tree ABlock). HasSegments s at.graphs b (Err fault)) is h; comes = refl }
+
+  -- over the segments that its MATCH uses, by the table of that
+  module _ (segments : List Segments) (used : HasSegments s at.graphs (block_tree block) (Ok segments)) (table : Relation)
+      (matched : IsTableOfBlock (setting at.graphs segments (block_tree block) []) table) where
+    over : (outcome : Result Made Fault) → OnTable s at (basic_tree names basic) segments table outcome → Basic-denotes outcome
+    over outcome made =
+        record {
+          segments = Ok segments;
+          used = subst (λ (b : Tree ABlock). HasSegments s at.graphs b (Ok segments)) is used;
+          comes = record { table = table; matched = subst (λ (b : Tree ABlock). IsTableOfBlock (setting at.graphs segments b []) table) is matched; made = made };
+        }
+
+    abbrev past : Option PastAt
+    past = first_past (costs_of s (basic_tree names basic)) table.rows
+
+    -- a cost that is past the range, and none
+    pub cost_fails : (p : PastAt) → past ≡ Some p → Basic-denotes (Err (CostPastRange p.token p.row))
+    cost_fails p is_past =
+        over (Err (CostPastRange p.token p.row))
+        (subst (λ (o : Option PastAt). WithCosts o (Comes s at (basic_tree names basic) segments table) (Err (CostPastRange p.token p.row))) (sym is_past) refl)
+
+    pub costs_fit : past ≡ None → (outcome : Result Made Fault) → Comes s at (basic_tree names basic) segments table outcome → Basic-denotes outcome
+    costs_fit none outcome h = over outcome (subst (λ (o : Option PastAt). WithCosts o (Comes s at (basic_tree names basic) segments table) outcome) (sym none) h)

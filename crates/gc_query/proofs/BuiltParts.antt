@@ -10,7 +10,7 @@ use Rattle.gc_expr.specs.Views.{Names}
 use Rattle.gc_lower.specs.Blocks.{block_of}
 use Rattle.gc_lower.specs.Scopes.{Scope}
 use Rattle.gc_lower.proofs.TreeParts.{basic_term, query_parts, query_term}
-use Rattle.gc_query.specs.Built.{built, no_walks}
+use Rattle.gc_query.specs.Built.{built, are_searched}
 use Rattle.gc_query.proofs.QueryParts.{next_parts}
 
 module _ (s : Scope) (names : Names) where
@@ -19,7 +19,7 @@ module _ (s : Scope) (names : Names) where
   unfolding built
   of_query q = ap (built s) (query_parts names q)
 
-  pub of_basic : (b : Box Basic Global) → built s (term_tree names (term.Basic b)) ≡ no_walks (block_of s [] (basic_tree names b.value))
+  pub of_basic : (b : Box Basic Global) → built s (term_tree names (term.Basic b)) ≡ are_searched (block_of s [] (basic_tree names b.value))
   unfolding built
   of_basic b = ap (built s) (basic_term names b)
 

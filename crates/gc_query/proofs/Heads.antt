@@ -1,8 +1,9 @@
 -- What stands under heads, one head after another.
 use Rattle.std.proofs.Common.{◌≡◌, Result, Ok, Err, refl, sym, subst}
-use Rattle.gc_ast.specs.Trees.{Tree, AHead, AQuery, RowOf, Named, PathHead, GraphHead, none, more}
+use Rattle.gc_ast.specs.Trees.{Tree, AFormula, AHead, APattern, AQuery, RowOf, Named, PathHead, GraphHead, none, more}
 use Rattle.gc_lower.specs.Scopes.{Scope}
-use Rattle.gc_query.specs.Queries.{Denotes, Heads, Then, stood}
+use Rattle.gc_query.specs.Queries.{Denotes, Heads, stood}
+use Rattle.gc_query.specs.Outcomes.{Then}
 use Rattle.gc_query.specs.Standings.{Standing, Made}
 use Rattle.gc_query.specs.declared.fault.Fault.{Fault}
 
@@ -20,6 +21,11 @@ module _ (s : Scope) where
   pub no_heads : (at : Standing) → Heads s at none (Ok at)
   unfolding Denotes
   no_heads at = refl
+
+  -- a head that declares a view, which is evaluated where it is used
+  pub names_view : (at : Standing) (name : Named) (chains : Tree (RowOf (RowOf APattern))) (filter cost : Tree (RowOf AFormula)) → Heads s at (more (PathHead name chains filter cost) none) (Ok at)
+  unfolding Denotes
+  names_view at name chains filter cost = refl
 
   -- a head that names the graph of a query, and one whose query has a fault
   pub names_graph : (at : Standing) (name : Named) (query : Tree AQuery) (made : Made) (under : Result Standing Fault) → Denotes s at query (Ok made) → under ≡ stood at made

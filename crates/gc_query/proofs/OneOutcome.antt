@@ -1,38 +1,35 @@
 -- A query, and a statement, come to one thing.
-use Rattle.std.proofs.Common.{◌≡◌, ℕ, ◌+◌, ◌<◌, ◌≤◌, true, false, Bool, [], Option, Some, None, Result, Ok, Err, refl, sym, ap, ◌∙◌, subst, arith}
+use Rattle.std.proofs.Common.{◌≡◌, ℕ, List, [], Option, Some, None, Result, Ok, Err, refl, sym, ◌∙◌, subst, arith}
 use Rattle.std.proofs.lemmas.Option.{same_Some}
-use Rattle.gc_alg.specs.Matches.{Setting as Matching}
-use Rattle.gc_alg.specs.Tables.{IsTableOfBlock, table_schema}
 use Rattle.gc_ast.specs.Trees.{Tree, AQuery, ATerm, AHead, ANextTerm, AStatement, ABasic, RowOf, Query, NextTerm, BasicTerm, GraphTerm, QueryTerm, PathHead, GraphHead, View, Ask, none, more}
 use Rattle.gc_ast.specs.declared.query.SetOp.{SetOp}
 use Rattle.gc_ast.specs.declared.query.SetOp.TheVariants as op
-use Rattle.gc_build.specs.Constructed.{claims}
+use Rattle.gc_build.specs.AllPaths.{Patterns}
+use Rattle.gc_build.specs.Constructed.{IsBuilt, IsUnfit}
+use Rattle.gc_build.specs.declared.built.Built.{Built}
+use Rattle.gc_build.proofs.OneClaims.{one_due}
 use Rattle.gc_build_numbers.specs.Settings.{Setting}
-use Rattle.gc_build_reading.specs.Recipes.{recipe_of}
 use Rattle.gc_build_recipe.specs.Recipes.{Recipe}
 use Rattle.gc_exec.specs.Runs.{setting}
 use Rattle.gc_lower.specs.Blocks.{block_of}
 use Rattle.gc_lower.specs.Scopes.{Scope}
-use Rattle.gc_rows.specs.Rows.{row_order}
 use Rattle.gc_rows.specs.Tables.{Relation}
-use Rattle.gc_rows.proofs.AscendingLists.{same_ascending}
-use Rattle.gc_rows.proofs.RowLaws.{row_order_total}
 use Rattle.gc_spec.specs.PropertyGraph.{PropertyGraph}
-use Rattle.gc_query.specs.Basics.{ComesTo, DenotesBasic, read_on, token_of}
-use Rattle.gc_query.specs.Queries.{Combines, Denotes, DenotesTerm, Heads, Joined, Terms, Then, stood}
+use Rattle.gc_prod.specs.Segments.{Segments}
+use Rattle.gc_sets.specs.Claims.{IsClaimed}
+use Rattle.gc_query.specs.Basics.{Comes, ComesTo, DenotesBasic, OnTable, OverSegments, WithCosts, asked_of, patterns_of, read_on, token_of}
+use Rattle.gc_query.specs.Costs.{costs_of, first_past}
+use Rattle.gc_query.specs.Queries.{Combines, Denotes, DenotesTerm, Heads, Joined, Terms, stood}
+use Rattle.gc_query.specs.Outcomes.{Then}
 use Rattle.gc_query.specs.Sessions.{Answer, Answers, AnswersAsk, AnswersView}
 use Rattle.gc_query.specs.Standings.{Standing, Made}
 use Rattle.gc_query.specs.declared.fault.Fault.{Fault}
-use Rattle.gc_query.specs.declared.fault.Fault.TheVariants.{Undefined, IdsSpent, NoGraph}
+use Rattle.gc_query.specs.declared.costs.PastAt.{PastAt}
+use Rattle.gc_query.specs.declared.fault.Fault.TheVariants.{BadCost, CostPastRange, Undefined, IdsSpent, NoGraph}
+use Rattle.gc_query.proofs.OneView.{one_segments}
+use Rattle.gc_query.proofs.Outcomes.{one_then}
+use Rattle.gc_query.proofs.TablesMade.{one_table}
 use Rattle.gc_query.proofs.OneGraph.{one_claimed, one_intersection, one_union}
-
-one_table : (s : Matching) (t u : Relation) → IsTableOfBlock s t → IsTableOfBlock s u → t ≡ u
-one_table s t u a b =
-    let over : t.schema ≡ u.schema = a.over ∙ sym b.over in
-    let rows : t.rows ≡ u.rows =
-    same_ascending (row_order (table_schema s)) (row_order_total (table_schema s)) t.rows u.rows a.rows.ascend b.rows.ascend
-    (λ x m. b.complete x (a.sound x m)) (λ x m. a.complete x (b.sound x m)) in
-    λ i. record { schema = over i; rows = rows i }
 
 -- graphs with the same next identity
 abbrev made_as : Made → Result Made Fault
@@ -41,36 +38,71 @@ made_as made = Ok made
 same_made : (a b : Made) → a.graph ≡ b.graph → a.next ≡ b.next → made_as a ≡ made_as b
 same_made a b g n = λ i. Ok (record { graph = g i; next = n i })
 
-one_coming : (s : Setting) (r : Recipe) (next token : ℕ) (a b : Result Made Fault) → ComesTo s r next token a → ComesTo s r next token b → a ≡ b
-one_coming s r next token (Ok a) (Ok b) p q = same_made a b (one_claimed (claims s r next) a.graph b.graph p.graph q.graph) (p.after ∙ sym q.after)
-one_coming s r next token (Ok a) (Err (Undefined at row why)) p q = let d = p.sound.defined in absurd (cc)
-one_coming s r next token (Ok a) (Err (IdsSpent at needed)) p q = let room = p.sound.room in absurd (omega (arith, room, q.1.needs, q.1.spent))
-one_coming s r next token (Ok a) (Err NoGraph) p q = absurd (q.none a.graph p.graph)
-one_coming s r next token (Err (Undefined at row why)) (Ok b) p q = let d = q.sound.defined in absurd (cc)
-one_coming s r next token (Err (Undefined at row why)) (Err (Undefined at' row' why')) p q =
-    let same = same_Some _ _ (sym p ∙ q) in
-    λ i. Err (Undefined (same i).at (same i).row (same i).why)
-one_coming s r next token (Err (Undefined at row why)) (Err (IdsSpent at' needed)) p q = let d = q.1.defined in absurd (cc)
-one_coming s r next token (Err (Undefined at row why)) (Err NoGraph) p q = let d = q.sound.defined in absurd (cc)
-one_coming s r next token (Err (IdsSpent at needed)) (Ok b) p q = let room = q.sound.room in absurd (omega (arith, room, p.1.needs, p.1.spent))
-one_coming s r next token (Err (IdsSpent at needed)) (Err (Undefined at' row why)) p q = let d = p.1.defined in absurd (cc)
-one_coming s r next token (Err (IdsSpent at needed)) (Err (IdsSpent at' needed')) p q =
-    let there : at ≡ at' = p.0 ∙ sym q.0 in
-    let many : needed ≡ needed' = p.1.needs ∙ sym q.1.needs in
-    λ i. Err (IdsSpent (there i) (many i))
-one_coming s r next token (Err (IdsSpent at needed)) (Err NoGraph) p q = let room = q.sound.room in absurd (omega (arith, room, p.1.needs, p.1.spent))
-one_coming s r next token (Err NoGraph) (Ok b) p q = absurd (p.none b.graph q.graph)
-one_coming s r next token (Err NoGraph) (Err (Undefined at row why)) p q = let d = p.sound.defined in absurd (cc)
-one_coming s r next token (Err NoGraph) (Err (IdsSpent at needed)) p q = let room = p.sound.room in absurd (omega (arith, room, q.1.needs, q.1.spent))
-one_coming s r next token (Err NoGraph) (Err NoGraph) p q = refl
+module _ (s : Setting) (r : Recipe) (ps : Patterns) (next : ℕ) where
+  -- the graph of what is claimed is one, and there is one or none
+  same_built : (a b : Built) → IsBuilt s r ps next a → IsBuilt s r ps next b → a.graph ≡ b.graph
+  same_built a b p q =
+      let claims : p.claims ≡ q.claims = one_due s r ps next p.claims q.claims p.due q.due in
+      one_claimed q.claims a.graph b.graph (subst (λ c. IsClaimed c a.graph) claims p.graph) q.graph
+
+  not_both : (a : Built) → IsBuilt s r ps next a → IsUnfit s r ps next → ⊥
+  not_both a p q =
+      let claims : p.claims ≡ q.claims = one_due s r ps next p.claims q.claims p.due q.due in
+      q.none a.graph (subst (λ c. IsClaimed c a.graph) claims p.graph)
+
+  -- what a recipe comes to on a table is one outcome
+  one_coming : (token : ℕ) (a b : Result Made Fault) → ComesTo s r ps next token a → ComesTo s r ps next token b → a ≡ b
+  one_coming token (Ok a) (Ok b) p q =
+      same_made a b (same_built (record { graph = a.graph; next = a.next }) (record { graph = b.graph; next = b.next }) p q) (p.after ∙ sym q.after)
+  one_coming token (Ok a) (Err (Undefined at row why)) p q = let d = p.sound.defined in absurd (cc)
+  one_coming token (Ok a) (Err (IdsSpent at needed)) p q = let room = p.sound.room in absurd (omega (arith, room, q.1.needs, q.1.spent))
+  one_coming token (Ok a) (Err NoGraph) p q = absurd (not_both (record { graph = a.graph; next = a.next }) p q)
+  one_coming token (Err (Undefined at row why)) (Ok b) p q = let d = q.sound.defined in absurd (cc)
+  one_coming token (Err (Undefined at row why)) (Err (Undefined at' row' why')) p q =
+      let same = same_Some _ _ (sym p ∙ q) in
+      λ i. Err (Undefined (same i).at (same i).row (same i).why)
+  one_coming token (Err (Undefined at row why)) (Err (IdsSpent at' needed)) p q = let d = q.1.defined in absurd (cc)
+  one_coming token (Err (Undefined at row why)) (Err NoGraph) p q = let d = q.sound.defined in absurd (cc)
+  one_coming token (Err (IdsSpent at needed)) (Ok b) p q = let room = q.sound.room in absurd (omega (arith, room, p.1.needs, p.1.spent))
+  one_coming token (Err (IdsSpent at needed)) (Err (Undefined at' row why)) p q = let d = p.1.defined in absurd (cc)
+  one_coming token (Err (IdsSpent at needed)) (Err (IdsSpent at' needed')) p q =
+      let there : at ≡ at' = p.0 ∙ sym q.0 in
+      let many : needed ≡ needed' = p.1.needs ∙ sym q.1.needs in
+      λ i. Err (IdsSpent (there i) (many i))
+  one_coming token (Err (IdsSpent at needed)) (Err NoGraph) p q = let room = q.sound.room in absurd (omega (arith, room, p.1.needs, p.1.spent))
+  one_coming token (Err NoGraph) (Ok b) p q = absurd (not_both (record { graph = b.graph; next = b.next }) q p)
+  one_coming token (Err NoGraph) (Err (Undefined at row why)) p q = let d = p.sound.defined in absurd (cc)
+  one_coming token (Err NoGraph) (Err (IdsSpent at needed)) p q = let room = p.sound.room in absurd (omega (arith, room, q.1.needs, q.1.spent))
+  one_coming token (Err NoGraph) (Err NoGraph) p q = refl
+  one_coming token (Ok a) (Err (BadCost at walk)) p q = absurd q
+  one_coming token (Ok a) (Err (CostPastRange at row)) p q = absurd q
+  one_coming token (Err (Undefined at row why)) (Err (BadCost at' walk)) p q = absurd q
+  one_coming token (Err (Undefined at row why)) (Err (CostPastRange at' row')) p q = absurd q
+  one_coming token (Err (IdsSpent at needed)) (Err (BadCost at' walk)) p q = absurd q
+  one_coming token (Err (IdsSpent at needed)) (Err (CostPastRange at' row)) p q = absurd q
+  one_coming token (Err NoGraph) (Err (BadCost at walk)) p q = absurd q
+  one_coming token (Err NoGraph) (Err (CostPastRange at row)) p q = absurd q
+  one_coming token (Err (BadCost at walk)) b p q = absurd p
+  one_coming token (Err (CostPastRange at row)) b p q = absurd p
+
+-- with its costs, and over the segments that its MATCH uses
+one_with_costs : (o : Option PastAt) (IsDue : Result Made Fault → Type 0) (a b : Result Made Fault) → ((c d : Result Made Fault) → IsDue c → IsDue d → c ≡ d)
+    → WithCosts o IsDue a → WithCosts o IsDue b → a ≡ b
+one_with_costs (Some past) IsDue a b one p q = p ∙ sym q
+one_with_costs None IsDue a b one p q = one a b p q
+
+one_over : (s : Scope) (at : Standing) (basic : Tree ABasic) (segments : List Segments) (a b : Result Made Fault) → OverSegments s at basic segments a → OverSegments s at basic segments b → a ≡ b
+one_over s at basic segments a b p q =
+    let tables : p.table ≡ q.table = one_table (setting at.graphs segments (block_of s [] basic) []) p.table q.table p.matched q.matched in
+    one_with_costs (first_past (costs_of s basic) q.table.rows) (Comes s at basic segments q.table) a b
+    (λ c d h k. one_coming (read_on s at basic q.table) (asked_of s basic q.table) (patterns_of s basic segments) at.next (token_of basic) c d h k)
+    (subst (λ (t : Relation). OnTable s at basic segments t a) tables p.made) q.made
 
 -- a CONSTRUCT comes to one outcome
 one_basic : (s : Scope) (at : Standing) (basic : Tree ABasic) (a b : Result Made Fault) → DenotesBasic s at basic a → DenotesBasic s at basic b → a ≡ b
 one_basic s at basic a b p q =
-    let tables : p.table ≡ q.table = one_table (setting at.graphs (block_of s [] basic) []) p.table q.table p.matched q.matched in
-    let made : ComesTo (read_on s at basic q.table) (recipe_of s q.table.schema basic) at.next (token_of basic) a =
-    subst (λ (t : Relation). ComesTo (read_on s at basic t) (recipe_of s t.schema basic) at.next (token_of basic) a) tables p.made in
-    one_coming (read_on s at basic q.table) (recipe_of s q.table.schema basic) at.next (token_of basic) a b made q.made
+    one_then p.segments q.segments (OverSegments s at basic) a b (one_segments s at.graphs (block_of s [] basic) p.segments q.segments p.used q.used)
+    (λ segments c d h k. one_over s at basic segments c d h k) p.comes q.comes
 
 -- two graphs are combined to one
 one_combined : (o : SetOp) (left : PropertyGraph) (right : Made) (a b : Result Made Fault) → Combines o left right a → Combines o left right b → a ≡ b
@@ -84,17 +116,14 @@ one_combined o left right (Ok a) (Err (Undefined at row why)) p q = absurd q
 one_combined o left right (Ok a) (Err (IdsSpent at needed)) p q = absurd q
 one_combined o left right (Err NoGraph) (Err (Undefined at row why)) p q = absurd q
 one_combined o left right (Err NoGraph) (Err (IdsSpent at needed)) p q = absurd q
+one_combined o left right (Ok a) (Err (BadCost at walk)) p q = absurd q
+one_combined o left right (Ok a) (Err (CostPastRange at row)) p q = absurd q
+one_combined o left right (Err NoGraph) (Err (BadCost at walk)) p q = absurd q
+one_combined o left right (Err NoGraph) (Err (CostPastRange at row)) p q = absurd q
+one_combined o left right (Err (BadCost at walk)) b p q = absurd p
+one_combined o left right (Err (CostPastRange at row)) b p q = absurd p
 one_combined o left right (Err (Undefined at row why)) b p q = absurd p
 one_combined o left right (Err (IdsSpent at needed)) b p q = absurd p
-
--- what follows one outcome is one, where it is one for each
-one_then : {A B : Type 0} (x y : Result A Fault) (next : A → Result B Fault → Type 0) (a b : Result B Fault) → x ≡ y
-    → ((m : A) (c d : Result B Fault) → next m c → next m d → c ≡ d) → Then x next a → Then y next b → a ≡ b
-one_then {A} {B} x y next a b same each p q = by x a b p (subst (λ z. Then z next b) (sym same) q)
-  where
-    by : (z : Result A Fault) (c d : Result B Fault) → Then z next c → Then z next d → c ≡ d
-    by (Ok m) c d h k = each m c d h k
-    by (Err fault) c d h k = h ∙ sym k
 
 mutual
   unfolding Denotes

@@ -11,7 +11,8 @@ use Rattle.gc_expr.specs.Views.{Names}
 use Rattle.gc_lower.specs.Scopes.{Scope}
 use Rattle.gc_lower.proofs.TreeParts.{basic_term, query_parts, query_term}
 use Rattle.gc_query.specs.Basics.{DenotesBasic}
-use Rattle.gc_query.specs.Queries.{Combines, Denotes, DenotesTerm, Heads, Joined, Terms, Then}
+use Rattle.gc_query.specs.Queries.{Combines, Denotes, DenotesTerm, Heads, Joined, Terms}
+use Rattle.gc_query.specs.Outcomes.{Then}
 use Rattle.gc_query.specs.Standings.{Standing, Made}
 use Rattle.gc_query.specs.declared.fault.Fault.{Fault}
 use Rattle.gc_spec.specs.PropertyGraph.{PropertyGraph}

@@ -1,5 +1,11 @@
 -- What the code of a query gives: what the query denotes, or want of memory.
-use Rattle.std.specs.Prelude.{◌≡◌, ℕ, ◌≤◌, length, take, Option, Some, None, Result, Ok, Err, IfOk, ⊤}
+use Rattle.std.specs.Prelude.{◌≡◌, ℕ, ◌≤◌, Bool, true, false, List, length, map, take, Option, Some, None, Result, Ok, Err, IfOk, ⊤}
+use Rattle.std.specs.Option.{option_map}
+use Rattle.gc_ast.specs.PatternViews.{named, pattern_tree}
+use Rattle.gc_ast.specs.QueryViews.{formula_tree}
+use Rattle.gc_ast.specs.Trees.{maybe, rows}
+use Rattle.gc_ast.specs.declared.pattern.Pattern.{Pattern}
+use Rattle.gc_ast.specs.declared.pattern.Pattern.TheVariants as pattern
 use Rattle.gc_build.specs.declared.built.Built.{Built}
 use Rattle.gc_build.specs.declared.built.Refusal.{Refusal}
 use Rattle.gc_build.specs.declared.built.Refusal.TheVariants as build
@@ -7,11 +13,16 @@ use Rattle.gc_catalog.specs.NamedGraphs.{NamedGraphs}
 use Rattle.gc_expr.specs.Views.{Names}
 use Rattle.gc_lower.specs.Namings.{scope_of}
 use Rattle.gc_lower.specs.Scopes.{Scope}
+use Rattle.gc_automata.specs.Moves.{Segment}
+use Rattle.gc_views.specs.declared.fault.ViewFault.{ViewFault}
+use Rattle.gc_views.specs.declared.fault.ViewFault.TheVariants as view
+use Rattle.gc_query.specs.Segments.{Declared, declared}
 use Rattle.gc_query.specs.Standings.{Standing, Made}
 use Rattle.gc_query.specs.declared.fault.Fault.{Fault}
-use Rattle.gc_query.specs.declared.fault.Fault.TheVariants.{Undefined, IdsSpent, NoGraph}
+use Rattle.gc_query.specs.declared.fault.Fault.TheVariants.{Undefined, BadCost, IdsSpent, NoGraph}
 use Rattle.gc_query.specs.declared.fault.QueryRefusal.{QueryRefusal}
 use Rattle.gc_query.specs.declared.fault.QueryRefusal.TheVariants as refusal
+use Rattle.gc_query.specs.declared.path_views.PathView.{PathView}
 use Rattle.gc_query.specs.declared.session.Session.{Session}
 
 -- a refusal tells the fault that is due, or want of memory, which is free
@@ -20,8 +31,8 @@ IsRefused IsDue (refusal.Fault fault) = IsDue fault
 IsRefused IsDue refusal.Memory = ⊤
 
 -- what is due is given, or refused
-abbrev pub IsAnswered : (IsDue : Result Made Fault → Type 0) → Result Made QueryRefusal → Type 0
-IsAnswered IsDue (Ok made) = IsDue (Ok made)
+abbrev pub IsAnswered : {A : Type 0} → (IsDue : Result A Fault → Type 0) → Result A QueryRefusal → Type 0
+IsAnswered IsDue (Ok x) = IsDue (Ok x)
 IsAnswered IsDue (Err refused) = IsRefused (λ fault. IsDue (Err fault)) refused
 
 -- what a CONSTRUCT at a token comes to, as the outcome of a query
@@ -31,6 +42,24 @@ outcome_of token (Ok None) = Err (refusal.Fault NoGraph)
 outcome_of token (Err (build.Fault f)) = Err (refusal.Fault (Undefined f.at f.row f.why))
 outcome_of token (Err (build.IdsSpent needed)) = Err (refusal.Fault (IdsSpent token needed))
 outcome_of token (Err build.Memory) = Err refusal.Memory
+
+-- what a view whose name is at a token comes to, as the outcome of a query
+abbrev pub told_of : (token : ℕ) → Result (List Segment) ViewFault → Result (List Segment) QueryRefusal
+told_of token (Ok segments) = Ok segments
+told_of token (Err (view.BadCost walk)) = Err (refusal.Fault (BadCost token walk))
+told_of token (Err view.Memory) = Err refusal.Memory
+
+-- whether a pattern is a node or an edge
+abbrev pub plain_pattern : Pattern → Bool
+plain_pattern (pattern.Node e) = true
+plain_pattern (pattern.Edge way e) = true
+plain_pattern (pattern.Path token regex_at body) = false
+
+-- what a PATH head says, by the names of a file
+abbrev pub declared_in : Names → PathView → Declared
+declared_in names v =
+    declared (named names v.name) (rows (map (λ c. map (pattern_tree names) c.parts) v.chains.now)) (maybe (option_map (formula_tree names) v.filter.now))
+    (maybe (option_map (formula_tree names) v.cost.now))
 
 -- the next identity rises, at most to one more than the largest
 abbrev pub Rises : (next : ℕ) → Result Made QueryRefusal → Type 0

@@ -1,7 +1,12 @@
 pub mod Answered
 pub mod Basics
 pub mod Built
+pub mod Costs
+pub mod Outcomes
 pub mod Queries
+pub mod Segments
 pub mod Sessions
 pub mod Standings
 pub mod Steps
+pub mod UsedViews
+pub mod Uses

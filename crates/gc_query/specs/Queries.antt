@@ -13,17 +13,13 @@ use Rattle.gc_ppg.specs.Shapes.{graph_agrees}
 use Rattle.gc_spec.specs.Coherence.{shapes_of}
 use Rattle.gc_spec.specs.PropertyGraph.{PropertyGraph}
 use Rattle.gc_query.specs.Basics.{DenotesBasic}
+use Rattle.gc_query.specs.Outcomes.{Then}
 use Rattle.gc_query.specs.Standings.{Standing, Made}
 use Rattle.gc_query.specs.declared.fault.Fault.{Fault}
 use Rattle.gc_query.specs.declared.fault.Fault.TheVariants.{NoGraph}
 
 -- Take two graphs g and h, where the next identity is 5. `CONSTRUCT (x) MATCH (n) ON g UNION h`, where g has one node, comes to the
 -- graph of a new node 5 and of all that h has; the next identity is then 6.
-
--- a fault is the outcome of all that it stands in; after anything else comes what is next
-abbrev pub Then : {A B : Type 0} → Result A Fault → (A → Result B Fault → Type 0) → Result B Fault → Type 0
-Then (Err fault) next outcome = outcome ≡ Err fault
-Then (Ok x) next outcome = next x outcome
 
 -- the graph of a number, where the sort rules let no name be without one; else it would be that without elements
 abbrev pub no_elements : PropertyGraph

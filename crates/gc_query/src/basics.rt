@@ -1,32 +1,32 @@
-ghost use Rattle.std.specs.Prelude.{◌≡◌, ◌≤◌, [], true, IfOk};
-ghost use Rattle.gc_alg.specs.Tables.{IsTableOfBlock};
+ghost use Rattle.std.specs.Prelude.{◌≡◌, ◌≤◌, [], true};
 ghost use Rattle.gc_alg.specs.Views.{block_tree};
 ghost use Rattle.gc_ast.specs.QueryViews.{basic_tree};
-ghost use Rattle.gc_exec.specs.Runs.{setting};
 ghost use Rattle.gc_lower.specs.Blocks.{block_of};
+ghost use Rattle.gc_walks.specs.Databases.{AreOnGraphs};
 ghost use Rattle.gc_query.specs.Answered.{IsAnswered, Rises, names_in, outcome_of, scope_in};
-ghost use Rattle.gc_query.specs.Basics.{DenotesBasic};
-ghost use Rattle.gc_query.specs.Built.{no_walks};
+ghost use Rattle.gc_query.specs.Basics.{Comes, DenotesBasic};
+ghost use Rattle.gc_query.specs.Built.{are_searched};
 
+use crate::costs::{costs_of, first_past};
 use crate::fault::{Fault, QueryRefusal};
 use crate::made::Made;
+use crate::segments::segments_used;
 use crate::session::Session;
+use crate::tables::table_of;
 use gc_alg::Block;
 use gc_ast::Basic;
-use gc_base::{Memory, Steps};
+use gc_base::Steps;
 use gc_build::{Built, Refusal, construct};
 use gc_build_numbers::Setting;
-use gc_build_reading::recipe;
-use gc_exec::run;
+use gc_build_reading::{found_variables, recipe};
 use gc_lower::lower_match;
-use gc_plan::plan;
 use gc_ppg::GraphList;
-use gc_rows::{Row, Table};
-use std::alloc::Global;
+use gc_prod::SegmentTable;
+use gc_rows::Table;
 use std::sync::ledger::Ledger;
 
-/// What a CONSTRUCT comes to on the table of its MATCH, which has to look for no walk, where the next
-/// identity is `next`.
+/// What a CONSTRUCT comes to, where the next identity is `next`. The expressions of its patterns have to have
+/// automata.
 pub(crate) fn basic_made<L: Ledger>(
     session: &Session<'_>,
     graphs: &GraphList,
@@ -34,37 +34,78 @@ pub(crate) fn basic_made<L: Ledger>(
     next: u64,
     steps: &mut Steps<L>,
 ) -> Result<Made, QueryRefusal>
-    requires walks { no_walks (block_of (scope_in session.now) [] (basic_tree (names_in session.now) basic.now)) ≡ true }
+    requires walks { are_searched (block_of (scope_in session.now) [] (basic_tree (names_in session.now) basic.now)) ≡ true }
     requires most { next ≤ 9007199254740992 }
     ensures rises { Rises next result }
     ensures due { IsAnswered (DenotesBasic (scope_in session.now) (record { graphs = graphs.now; next = next }) (basic_tree (names_in session.now) basic.now)) result }
 {
     let lowered = lower_match(session.alloc, session.checked, basic)?;
-    let table = table_of(session.alloc, graphs, &lowered.block, steps)?;
-    let bound = table.schema().as_slice();
-    let recipe = recipe(session.alloc, session.checked, basic, bound)?;
-    let setting = Setting {
-        alloc: session.alloc,
+    let segments = segments_used(session, graphs, &lowered.block, steps)?;
+    let table = table_of(session.alloc, graphs, &segments, &lowered.block, steps)?;
+    let costs = costs_of(session.alloc, session.checked, basic)?;
+    if let Some(past) = first_past(&costs, table.rows().as_slice()) {
+        return Err(QueryRefusal::Fault(Fault::CostPastRange {
+            at: past.token,
+            row: past.row,
+        }));
+    }
+    let matched = Matched {
+        block: &lowered.block,
+        segments: &segments,
         table: &table,
-        reads: &lowered.block.reads,
-        graphs,
     };
-    made_of(construct(&setting, &recipe, next, steps), basic.token)
+    table_made(session, graphs, basic, &matched, next, steps)
 }
 
-// The table of a block.
-fn table_of<L: Ledger>(
-    alloc: Global,
+// The MATCH of a CONSTRUCT: its block, the segments that it uses, and its table.
+#[derive(Drop)]
+struct Matched<'a> {
+    block: &'a Block,
+    segments: &'a SegmentTable,
+    table: &'a Table,
+}
+
+// What a CONSTRUCT comes to on the table of its MATCH, on which no cost is past the range.
+fn table_made<L: Ledger>(
+    session: &Session<'_>,
     graphs: &GraphList,
-    block: &Block,
+    basic: &Basic,
+    matched: &Matched<'_>,
+    next: u64,
     steps: &mut Steps<L>,
-) -> Result<Table, Memory>
-    requires { no_walks (block_tree block.now) ≡ true }
-    ensures { IfOk result (IsTableOfBlock (setting graphs.now (block_tree block.now) [])) }
+) -> Result<Made, QueryRefusal>
+    requires block { block_tree matched.now.block.now ≡ block_of (scope_in session.now) [] (basic_tree (names_in session.now) basic.now) }
+    requires walks { are_searched (block_tree matched.now.block.now) ≡ true }
+    requires there { AreOnGraphs graphs.now matched.now.segments.now }
+    requires most { next ≤ 9007199254740992 }
+    ensures rises { Rises next result }
+    ensures due { let s = scope_in session.now in let tree = basic_tree (names_in session.now) basic.now in
+        IsAnswered (Comes s (record { graphs = graphs.now; next = next }) tree matched.now.segments.now matched.now.table.now) result }
 {
-    let plan = plan(alloc, block)?;
-    let given = Row::empty(alloc);
-    run(alloc, &plan, block, graphs, &given, steps)
+    let bound = matched.table.schema().as_slice();
+    let found = found_variables(session.alloc, matched.block)?;
+    let recipe = recipe(
+        session.alloc,
+        session.checked,
+        basic,
+        bound,
+        found.as_slice(),
+    )?;
+    let setting = Setting {
+        alloc: session.alloc,
+        table: matched.table,
+        reads: &matched.block.reads,
+        graphs,
+    };
+    let outcome = construct(
+        &setting,
+        &recipe,
+        matched.block,
+        matched.segments,
+        next,
+        steps,
+    );
+    made_of(outcome, basic.token)
 }
 
 // What a CONSTRUCT at a token comes to, as the outcome of a query.

@@ -2,99 +2,100 @@ ghost use Rattle.std.specs.Prelude.{◌≡◌, map};
 ghost use Rattle.std.specs.List.{list_all};
 ghost use Rattle.gc_alg.specs.Trees.{row};
 ghost use Rattle.gc_alg.specs.Views.{block_tree, conjunct_tree, exists_tree, part_tree};
-ghost use Rattle.gc_query.specs.Built.{binds_no_walk, no_walks};
+ghost use Rattle.gc_query.specs.Built.{is_searched, are_searched};
 
 use gc_alg::{Atom, AtomWhat, Block, Conjunct, ExistsBlock, Part};
-use gc_exec::is_searchable;
+use gc_walks::is_searchable;
 
-/// Whether a block binds no walks, nor do the EXISTS queries in it.
-#[tactic(auto, using(gc_alg::proofs::Layers::block_is), unfolding(crate::specs::Built::no_walks))]
+/// Whether each expression in the patterns of a block has an automaton, and in those of its EXISTS queries.
+#[tactic(auto, using(gc_alg::proofs::Layers::block_is), unfolding(crate::specs::Built::are_searched))]
 #[cycle(walks)]
-pub(crate) fn no_walks(block: &Block) -> bool
-    ensures { result ≡ no_walks (block_tree block.now) }
+pub(crate) fn are_searched(block: &Block) -> bool
+    ensures { result ≡ are_searched (block_tree block.now) }
 {
-    parts_bind_none(&block.parts)
+    are_parts_searched(&block.parts)
 }
 
-#[tactic(auto, unfolding(crate::specs::Built::no_walks))]
+#[tactic(auto, unfolding(crate::specs::Built::are_searched))]
 #[cycle(walks)]
-fn parts_bind_none(parts: &[Part]) -> bool
-    ensures { result ≡ no_walks (row (map part_tree parts.now)) }
+fn are_parts_searched(parts: &[Part]) -> bool
+    ensures { result ≡ are_searched (row (map part_tree parts.now)) }
 {
     for part in parts {
-        if !part_binds_none(part) {
+        if !is_part_searched(part) {
             return false;
         }
     }
     true
 }
 
-#[tactic(auto, using(gc_alg::proofs::Layers::part_is), unfolding(crate::specs::Built::no_walks))]
+#[tactic(auto, using(gc_alg::proofs::Layers::part_is), unfolding(crate::specs::Built::are_searched))]
 #[cycle(walks)]
-fn part_binds_none(part: &Part) -> bool
-    ensures { result ≡ no_walks (part_tree part.now) }
+fn is_part_searched(part: &Part) -> bool
+    ensures { result ≡ are_searched (part_tree part.now) }
 {
-    bind_no_walk(&part.atoms) && conjuncts_bind_none(&part.conjuncts)
+    are_atoms_searched(&part.atoms) && are_conjuncts_searched(&part.conjuncts)
 }
 
-#[tactic(auto, unfolding(crate::specs::Built::no_walks))]
+#[tactic(auto, unfolding(crate::specs::Built::are_searched))]
 #[cycle(walks)]
-fn conjuncts_bind_none(conjuncts: &[Conjunct]) -> bool
-    ensures { result ≡ no_walks (row (map conjunct_tree conjuncts.now)) }
+fn are_conjuncts_searched(conjuncts: &[Conjunct]) -> bool
+    ensures { result ≡ are_searched (row (map conjunct_tree conjuncts.now)) }
 {
     for conjunct in conjuncts {
-        if !conjunct_binds_none(conjunct) {
+        if !is_conjunct_searched(conjunct) {
             return false;
         }
     }
     true
 }
 
-#[tactic(auto, using(gc_alg::proofs::Layers::conjunct_is), unfolding(crate::specs::Built::no_walks))]
+#[tactic(auto, using(gc_alg::proofs::Layers::conjunct_is), unfolding(crate::specs::Built::are_searched))]
 #[cycle(walks)]
-fn conjunct_binds_none(conjunct: &Conjunct) -> bool
-    ensures { result ≡ no_walks (conjunct_tree conjunct.now) }
+fn is_conjunct_searched(conjunct: &Conjunct) -> bool
+    ensures { result ≡ are_searched (conjunct_tree conjunct.now) }
 {
-    queries_bind_none(&conjunct.subqueries)
+    are_queries_searched(&conjunct.subqueries)
 }
 
-#[tactic(auto, unfolding(crate::specs::Built::no_walks))]
+#[tactic(auto, unfolding(crate::specs::Built::are_searched))]
 #[cycle(walks)]
-fn queries_bind_none(queries: &[ExistsBlock]) -> bool
-    ensures { result ≡ no_walks (row (map exists_tree queries.now)) }
+fn are_queries_searched(queries: &[ExistsBlock]) -> bool
+    ensures { result ≡ are_searched (row (map exists_tree queries.now)) }
 {
     for query in queries {
-        if !query_binds_none(query) {
+        if !is_query_searched(query) {
             return false;
         }
     }
     true
 }
 
-#[tactic(auto, using(gc_alg::proofs::Layers::exists_is), unfolding(crate::specs::Built::no_walks))]
+#[tactic(auto, using(gc_alg::proofs::Layers::exists_is), unfolding(crate::specs::Built::are_searched))]
 #[cycle(walks)]
-fn query_binds_none(query: &ExistsBlock) -> bool
-    ensures { result ≡ no_walks (exists_tree query.now) }
+fn is_query_searched(query: &ExistsBlock) -> bool
+    ensures { result ≡ are_searched (exists_tree query.now) }
 {
-    no_walks(&query.block)
+    are_searched(&query.block)
 }
 
-// Whether no atom binds walks.
-fn bind_no_walk(atoms: &[Atom]) -> bool
-    ensures { result ≡ list_all (λ a. binds_no_walk a.what) atoms.now }
+// Whether each expression of some atoms has an automaton.
+fn are_atoms_searched(atoms: &[Atom]) -> bool
+    ensures { result ≡ list_all (λ a. is_searched a.what) atoms.now }
 {
-    atoms.iter().all(|atom| binds_no_walk(&atom.what))
+    atoms.iter().all(|atom| is_searched(&atom.what))
 }
 
-fn binds_no_walk(what: &AtomWhat) -> bool
-    ensures { result ≡ binds_no_walk what.now }
+fn is_searched(what: &AtomWhat) -> bool
+    ensures { result ≡ is_searched what.now }
 {
     match what {
         AtomWhat::Node { .. }
         | AtomWhat::Edge { .. }
         | AtomWhat::Property { .. }
         | AtomWhat::Stored { .. } => true,
-        AtomWhat::Reach { regex, .. } => is_searchable(&regex.0),
-        AtomWhat::Found { .. } | AtomWhat::All { .. } => false,
+        AtomWhat::Reach { regex, .. }
+        | AtomWhat::Found { regex, .. }
+        | AtomWhat::All { regex, .. } => is_searchable(&regex.0),
     }
 }

@@ -4,16 +4,16 @@ ghost use Rattle.gc_ast.specs.QueryViews.{basic_tree, head_tree, next_term_tree,
 ghost use Rattle.gc_ast.specs.Trees.{row};
 ghost use Rattle.gc_lower.specs.Namings.{file_of, scope_of};
 ghost use Rattle.gc_lower.specs.Blocks.{block_of};
-ghost use Rattle.gc_query.specs.Built.{built, is_built, no_walks};
+ghost use Rattle.gc_query.specs.Built.{built, is_built, are_searched};
 
-use crate::blocks::no_walks;
+use crate::blocks::are_searched;
 use gc_ast::{Basic, Head, NextTerm, Query, Statement, Term};
 use gc_base::Memory;
 use gc_lower::lower_match;
 use gc_sorts::Checked;
 use std::alloc::Global;
 
-/// Whether all of a query file is built: no statement of it looks for a walk or declares a view of paths.
+/// Whether all of a query file is built: each regular path expression of it has an automaton.
 pub fn is_built(alloc: Global, checked: &Checked) -> Result<bool, Memory>
     ensures { IfOk result (λ b. b ≡ is_built (file_of checked.now)) }
 {
@@ -73,7 +73,7 @@ fn head_is_built(head: &Head, alloc: Global, checked: &Checked) -> Result<bool, 
 {
     match head {
         Head::Graph { name: _, query } => query_is_built(query, alloc, checked),
-        Head::Path { .. } => Ok(false),
+        Head::Path { .. } => Ok(true),
     }
 }
 
@@ -102,10 +102,10 @@ fn term_is_built(term: &Term, alloc: Global, checked: &Checked) -> Result<bool, 
     }
 }
 
-// Whether the MATCH of a CONSTRUCT looks for no walk.
+// Whether each expression of the MATCH of a CONSTRUCT has an automaton.
 fn basic_is_built(basic: &Basic, alloc: Global, checked: &Checked) -> Result<bool, Memory>
-    ensures { IfOk result (λ b. b ≡ no_walks (block_of (scope_of checked.now 0) [] (basic_tree checked.now.file.names basic.now))) }
+    ensures { IfOk result (λ b. b ≡ are_searched (block_of (scope_of checked.now 0) [] (basic_tree checked.now.file.names basic.now))) }
 {
     let lowered = lower_match(alloc, checked, basic)?;
-    Ok(no_walks(&lowered.block))
+    Ok(are_searched(&lowered.block))
 }

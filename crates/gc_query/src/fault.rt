@@ -1,12 +1,17 @@
-use gc_base::Memory;
+use gc_base::{Memory, Walk};
 use gc_values::Why;
 
 /// Why a statement has no graph. Places are numbers of tokens.
-#[derive(Clone, Copy, Debug)]
+#[derive(Debug, Drop)]
 pub enum Fault {
     /// An assignment is undefined on a row of the table, which is numbered from 0; `at` is the word of its
     /// property.
     Undefined { at: u32, row: u64, why: Why },
+    /// A row of a view has a bad cost, and this walk; `at` is the name of the view at its head.
+    BadCost { at: u32, walk: Walk },
+    /// A cost is above the greatest number on a row of the table, which is numbered from 0; `at` is its
+    /// variable behind COST.
+    CostPastRange { at: u32, row: u64 },
     /// So many new identities are needed that they would pass the largest; `at` is the word CONSTRUCT.
     IdsSpent { at: u32, needed: u64 },
     /// What is claimed is no graph, or one that does not agree with a graph beside it. No query file that
@@ -15,7 +20,7 @@ pub enum Fault {
 }
 
 /// Why a statement is not answered.
-#[derive(Clone, Copy, Debug)]
+#[derive(Debug, Drop)]
 pub enum QueryRefusal {
     Fault(Fault),
     Memory,

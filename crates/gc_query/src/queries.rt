@@ -112,8 +112,8 @@ fn head_stood<L: Ledger>(
             let made = query_made(query, session, catalog, next, steps)?;
             stand(session.alloc, catalog, made, steps)
         }
-        // No head that declares a view is built.
-        Head::Path { .. } => unreachable!(),
+        // A view is evaluated where it is used.
+        Head::Path { .. } => Ok(next),
     }
 }
 

@@ -15,7 +15,7 @@ use Rattle.gcore.specs.Steps.{StopsReadingQuery}
 use Rattle.gcore.specs.declared.command.Command.TheVariants.{Run}
 use Rattle.gcore.specs.declared.pair.Pair.{Pair}
 use Rattle.gcore.specs.declared.stop.Stop.{Stop}
-use Rattle.gcore.specs.declared.stop.Stop.TheVariants.{Usage, Unread, TooLarge, Refused, Text, Sorts, NotBuilt, Undefined, IdsSpent, NoGraph, Unwritten, OutOfMemory}
+use Rattle.gcore.specs.declared.stop.Stop.TheVariants.{Usage, Unread, TooLarge, Refused, Text, Sorts, NotBuilt, Faulted, NoGraph, Unwritten, OutOfMemory}
 
 -- a sink that was not called
 abbrev pub still : ℕ → Option (List ℕ) → Change
@@ -100,8 +100,7 @@ module _ (query : List ℕ) (pairs : List Pair) where
   query_stops (Some files) gs before middle after faults taken (Sorts rule place) graphs le h = ((refl, subst IsOk (sym graphs) refl), due_stop files gs (Sorts rule place) graphs h, refl)
   query_stops None gs before middle after faults taken NotBuilt graphs le h = (refl, tt, refl)
   query_stops (Some files) gs before middle after faults taken NotBuilt graphs le h = (refl, due_stop files gs NotBuilt graphs h, refl)
-  query_stops told gs before middle after faults taken (Undefined why place row) graphs le h = absurd h
-  query_stops told gs before middle after faults taken (IdsSpent place needed) graphs le h = absurd h
+  query_stops told gs before middle after faults taken (Faulted fault) graphs le h = absurd h
   query_stops told gs before middle after faults taken NoGraph graphs le h = absurd h
   query_stops told gs before middle after faults taken Unwritten graphs le h = absurd h
   query_stops told gs before middle after faults taken OutOfMemory graphs le h = nothing_is_prefix told before after (still faults taken) refl
@@ -127,8 +126,7 @@ module _ (query : List ℕ) (pairs : List Pair) where
   graph_stops told before after faults taken (Sorts rule place) h = absurd h
   graph_stops None before after faults taken NotBuilt h = (refl, tt, refl)
   graph_stops (Some files) before after faults taken NotBuilt h = (refl, first_stop files NotBuilt h, refl)
-  graph_stops told before after faults taken (Undefined why place row) h = absurd h
-  graph_stops told before after faults taken (IdsSpent place needed) h = absurd h
+  graph_stops told before after faults taken (Faulted fault) h = absurd h
   graph_stops told before after faults taken NoGraph h = absurd h
   graph_stops told before after faults taken Unwritten h = absurd h
   graph_stops told before after faults taken OutOfMemory h = nothing_is_prefix told before after (still faults taken) refl
@@ -152,8 +150,7 @@ module _ (query : List ℕ) (pairs : List Pair) where
     unbuilt t stop (Err OutOfMemory) c d same is w = nothing_is_prefix t before after out w
     unbuilt t stop (Ok done) c d same is w = let e = w.0 in absurd (cc)
     unbuilt t stop (Err Unwritten) c d same is w = let e = w.0 in absurd (cc)
-    unbuilt t stop (Err (Undefined why place row)) c d same is w = let e = w.0 in absurd (cc)
-    unbuilt t stop (Err (IdsSpent place needed)) c d same is w = let e = w.0 in absurd (cc)
+    unbuilt t stop (Err (Faulted fault)) c d same is w = let e = w.0 in absurd (cc)
     unbuilt t stop (Err NoGraph) c d same is w = let e = w.0 in absurd (cc)
     unbuilt t stop (Err Usage) c d same is w = let e = w.0 in absurd (cc)
     unbuilt t stop (Err (Unread name)) c d same is w = let e = w.0 in absurd (cc)
@@ -167,10 +164,8 @@ module _ (query : List ℕ) (pairs : List Pair) where
         → asked_of file ≡ Ok q → RunsSession (over gs q) out result → Answers (call_of t before after out) result
     ran None q (Ok done) c d same w = (refl, tt)
     ran (Some files) q (Ok done) c d same w = (refl, (over gs q, w.0, asked_is files gs file q c d same, w.1, w.2))
-    ran None q (Err (Undefined why place row)) c d same w = ((refl, tt), tt)
-    ran (Some files) q (Err (Undefined why place row)) c d same w = ((refl, turn (Some files) c), (over gs q, asked_is files gs file q c d same, w))
-    ran None q (Err (IdsSpent place needed)) c d same w = ((refl, tt), tt)
-    ran (Some files) q (Err (IdsSpent place needed)) c d same w = ((refl, turn (Some files) c), (over gs q, asked_is files gs file q c d same, w))
+    ran None q (Err (Faulted fault)) c d same w = ((refl, tt), tt)
+    ran (Some files) q (Err (Faulted fault)) c d same w = ((refl, turn (Some files) c), (over gs q, asked_is files gs file q c d same, w))
     ran None q (Err NoGraph) c d same w = ((refl, tt), tt)
     ran (Some files) q (Err NoGraph) c d same w = ((refl, turn (Some files) c), (over gs q, asked_is files gs file q c d same, w))
     ran None q (Err Unwritten) c d same w = (refl, w.0, tt)

@@ -22,7 +22,7 @@ use Rattle.gcore.specs.Outcomes.{Prints, PrintsFirst, Request, beginning, printe
 use Rattle.gcore.specs.QueryFiles.{PlacedFile}
 use Rattle.gcore.specs.SessionSteps.{GoesWell, HoldsPrinted, IsAtFault, IsCut, IsPrinted, RunsStatement, RunsStatementAt, Turn}
 use Rattle.gcore.specs.declared.stop.Stop.{Stop}
-use Rattle.gcore.specs.declared.stop.Stop.TheVariants.{Usage, Unread, TooLarge, Refused, Text, Sorts, NotBuilt, Undefined, IdsSpent, NoGraph, Unwritten, OutOfMemory}
+use Rattle.gcore.specs.declared.stop.Stop.TheVariants.{Usage, Unread, TooLarge, Refused, Text, Sorts, NotBuilt, Faulted, NoGraph, Unwritten, OutOfMemory}
 
 -- texts behind texts
 texts_more : (xs ys : List PropertyGraph) → texts (xs ++ ys) ≡ texts xs ++ texts ys
@@ -207,8 +207,7 @@ module _ (r : Request) where
     pub stops : (stop : Stop) → RunsStatement scope r.query.places turn statement (Err stop) → RunsSession r (joined_changes out now) (Err stop)
     stops Unwritten h = cut h
     stops OutOfMemory h = wanting h
-    stops (Undefined why place row) h = at_fault (Undefined why place row) h
-    stops (IdsSpent place needed) h = at_fault (IdsSpent place needed) h
+    stops (Faulted fault) h = at_fault (Faulted fault) h
     stops NoGraph h = at_fault NoGraph h
     stops NotBuilt h = absurd h
     stops Usage h = absurd h

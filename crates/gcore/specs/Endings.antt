@@ -1,5 +1,5 @@
 -- How a call ends, and what it did to the outside.
-use Rattle.std.specs.Prelude.{◌≡◌, ℕ, ◌≤◌, ◌<◌, ◌^◌, List, [], ◌∷◌, ◌++◌, length, map, Some, None, Option, Result, Ok, Err, IsOk, IsSome, IfSome, MatchOption, IsSomeAnd, Contains, ⊤, ◌⊎◌}
+use Rattle.std.specs.Prelude.{◌≡◌, ℕ, ◌≤◌, List, [], ◌∷◌, ◌++◌, length, map, Some, None, Option, Result, Ok, Err, IsOk, IsSome, IfSome, MatchOption, IsSomeAnd, Contains, ⊤, ◌⊎◌}
 use Rattle.std.specs.Option.{ForSome}
 use Rattle.std.specs.Io.KnownBytes.{append_known}
 use Rattle.gc_base.specs.Faults.{Rose}
@@ -8,6 +8,7 @@ use Rattle.gc_base.specs.declared.place.Place.{Place}
 use Rattle.gc_query.specs.declared.fault.Fault.{Fault}
 use Rattle.gc_query.specs.declared.fault.Fault.TheVariants as fault
 use Rattle.gc_spec.specs.PropertyGraph.{PropertyGraph}
+use Rattle.gcore.specs.FaultLines.{IsHeldFault, walk_text}
 use Rattle.gcore.specs.GraphLines.{IsHeld}
 use Rattle.gcore.specs.Lines.{line_of, status_of}
 use Rattle.gcore.specs.Outcomes.{IsAsked, Prints, PrintsFirst, Request, graphs_due, outcome, texts}
@@ -16,10 +17,11 @@ use Rattle.gcore.specs.TextLines.{IsHeldPlace, IsHeldText}
 use Rattle.gcore.specs.declared.command.Command.{Command}
 use Rattle.gcore.specs.declared.command.Command.TheVariants.{Run, Cert, Explain, Check, Make}
 use Rattle.gcore.specs.declared.pair.Pair.{Pair}
+use Rattle.gcore.specs.declared.placed_fault.PlacedFault.TheVariants.{Undefined, BadCost, CostPastRange, IdsSpent}
 use Rattle.gcore.specs.declared.status.Status.{Status}
 use Rattle.gcore.specs.declared.status.Status.TheVariants.{Done}
 use Rattle.gcore.specs.declared.stop.Stop.{Stop}
-use Rattle.gcore.specs.declared.stop.Stop.TheVariants.{Usage, Unread, TooLarge, Refused, Text, Sorts, NotBuilt, Undefined, IdsSpent, NoGraph, Unwritten, OutOfMemory}
+use Rattle.gcore.specs.declared.stop.Stop.TheVariants.{Usage, Unread, TooLarge, Refused, Text, Sorts, NotBuilt, Faulted, NoGraph, Unwritten, OutOfMemory}
 
 -- a sink before and after a call: its count of faults, and what it took, where it tells that
 pub record Change : Type 0 where
@@ -65,8 +67,10 @@ WritesText out text (Err stop) = ⊥
 
 -- a fault at a token, as a stop
 abbrev pub stop_of_fault : List Place → Fault → Stop
-stop_of_fault places (fault.Undefined at row why) = Undefined why (place_at places at) row
-stop_of_fault places (fault.IdsSpent at needed) = IdsSpent (place_at places at) needed
+stop_of_fault places (fault.Undefined at row why) = Faulted (Undefined why (place_at places at) row)
+stop_of_fault places (fault.BadCost at walk) = Faulted (BadCost (place_at places at) (walk_text walk))
+stop_of_fault places (fault.CostPastRange at row) = Faulted (CostPastRange (place_at places at) row)
+stop_of_fault places (fault.IdsSpent at needed) = Faulted (IdsSpent (place_at places at) needed)
 stop_of_fault places fault.NoGraph = NoGraph
 
 -- a session ends at a fault, and the texts of what it printed before were written
@@ -82,8 +86,7 @@ WritesBeginning r out = (graphs : List PropertyGraph) × PrintsFirst r graphs ×
 -- was wanting, behind the beginning of these texts
 abbrev pub RunsSession : Request → Change → Result (Unit {0}) Stop → Type 0
 RunsSession r out (Ok done) = (graphs : List PropertyGraph) × Prints r graphs None × Gains out (texts graphs)
-RunsSession r out (Err (Undefined why place row)) = EndsAtFault r out (Undefined why place row)
-RunsSession r out (Err (IdsSpent place needed)) = EndsAtFault r out (IdsSpent place needed)
+RunsSession r out (Err (Faulted fault)) = EndsAtFault r out (Faulted fault)
 RunsSession r out (Err NoGraph) = EndsAtFault r out NoGraph
 RunsSession r out (Err Unwritten) = Failed out × WritesBeginning r out
 RunsSession r out (Err OutOfMemory) = WritesBeginning r out
@@ -163,8 +166,7 @@ StopsFor call (Refused refusal file) = IsReachedGraph call file × IsDue call (R
 StopsFor call (Text refusal) = IsReachedQuery call × IsDue call (Text refusal) × GainsNothing call.out
 StopsFor call (Sorts rule place) = IsReachedQuery call × IsDue call (Sorts rule place) × GainsNothing call.out
 StopsFor call NotBuilt = IsSome call.command × IsDue call NotBuilt × GainsNothing call.out
-StopsFor call (Undefined why place row) = IsReachedQuery call × FaultIsDue call (Undefined why place row)
-StopsFor call (IdsSpent place needed) = IsReachedQuery call × FaultIsDue call (IdsSpent place needed)
+StopsFor call (Faulted fault) = IsReachedQuery call × FaultIsDue call (Faulted fault)
 StopsFor call NoGraph = IsReachedQuery call × FaultIsDue call NoGraph
 StopsFor call Unwritten = IsSome call.command × Failed call.out × GainsDuePrefix call
 StopsFor call OutOfMemory = GainsDuePrefix call
@@ -208,16 +210,21 @@ HasQuery (Explain query pairs) = ⊥
 HasQuery (Check document) = ⊥
 HasQuery (Make kind size start) = ⊥
 
--- a stop about a file is about one that the command reads
-abbrev pub MayStop : Option Command → Stop → Type 0
-MayStop command (Unread file) = Contains (named_files command) file
-MayStop command (TooLarge file) = Contains (named_files command) file
-MayStop command (Refused refusal file) = Contains (graph_files command) file × IsHeld refusal
-MayStop command (Text refusal) = IsSomeAnd command HasQuery × IsHeldText refusal
-MayStop command (Sorts rule place) = IsSomeAnd command HasQuery × IsHeldPlace place
-MayStop command (Undefined why place row) = IsSomeAnd command HasQuery × IsHeldPlace place × (row < 2 ^ 64)
-MayStop command (IdsSpent place needed) = IsSomeAnd command HasQuery × IsHeldPlace place × (needed < 2 ^ 64)
-MayStop command stop = ⊤
+-- where the files are told, the session that is asked for ends at the fault of a stop
+abbrev pub EndsAt : Option Files → Option Command → Stop → Type 0
+EndsAt told command stop =
+    IfSome told (λ files. (r : Request) × (graphs : List PropertyGraph) × (fault : Fault) × IsAsked (outcome command files) r × Prints r graphs (Some fault)
+    × (stop ≡ stop_of_fault r.query.places fault))
+
+-- a stop about a file is about one that the command reads, and one at a fault is about a fault of the session
+abbrev pub MayStop : Option Files → Option Command → Stop → Type 0
+MayStop told command (Unread file) = Contains (named_files command) file
+MayStop told command (TooLarge file) = Contains (named_files command) file
+MayStop told command (Refused refusal file) = Contains (graph_files command) file × IsHeld refusal
+MayStop told command (Text refusal) = IsSomeAnd command HasQuery × IsHeldText refusal
+MayStop told command (Sorts rule place) = IsSomeAnd command HasQuery × IsHeldPlace place
+MayStop told command (Faulted fault) = IsSomeAnd command HasQuery × IsHeldFault fault × EndsAt told command (Faulted fault)
+MayStop told command stop = ⊤
 
 -- a told room holds the texts of whatever first statements print
 abbrev pub HoldsTexts : Option ℕ → Request → Type 0
@@ -229,9 +236,10 @@ HoldsText room told command =
     ForSome room (λ most. IsSomeAnd told (λ files. (r : Request) (graphs : List PropertyGraph)
     → IsAsked (outcome command files) r → PrintsFirst r graphs → length (texts graphs) ≤ most))
 
--- a told room of `err` holds each line that may be due
-abbrev pub HoldsLines : Option ℕ → Option Command → Type 0
-HoldsLines room command = ForSome room (λ r. (stop : Stop) → MayStop command stop → length (line_of stop) ≤ r)
+-- a told room of `err` holds each line that may be due. The line of a bad cost is as long as its walk, so where a command runs a query
+-- and its files are not told, no told room does
+abbrev pub HoldsLines : Option ℕ → Option Files → Option Command → Type 0
+HoldsLines room told command = ForSome room (λ r. (stop : Stop) → MayStop told command stop → length (line_of stop) ≤ r)
 
 -- what is asked for over loaded graphs was done: its session was run, or it is not built
 abbrev pub WritesAsked : List PropertyGraph → Result PlacedFile Stop → Change → Result (Unit {0}) Stop → Type 0

@@ -1,15 +1,16 @@
 -- What reading the graph files answers.
-use Rattle.std.specs.Prelude.{◌≡◌, ℕ, ◌<◌, ◌^◌, List, [], length, map, Option, Some, Result, Ok, Err, IfSome, MatchOption, ⊤, ◌⊎◌}
+use Rattle.std.specs.Prelude.{◌≡◌, ℕ, List, [], length, map, Option, Some, Result, Ok, Err, IfSome, MatchOption, ⊤, ◌⊎◌}
 use Rattle.gc_base.specs.Faults.{Rose}
 use Rattle.gc_catalog.specs.NamedGraphs.{NamedGraphs}
 use Rattle.gcore.specs.Endings.{IsTurnOfGraph}
+use Rattle.gcore.specs.FaultLines.{IsHeldFault}
 use Rattle.gcore.specs.GraphLines.{IsHeld}
 use Rattle.gcore.specs.Outcomes.{free_above, graphs_due}
 use Rattle.gcore.specs.TextLines.{IsHeldPlace, IsHeldText}
 use Rattle.gcore.specs.Steps.{Reading}
 use Rattle.gcore.specs.declared.pair.Pair.{Pair}
 use Rattle.gcore.specs.declared.stop.Stop.{Stop}
-use Rattle.gcore.specs.declared.stop.Stop.TheVariants.{Usage, Unread, TooLarge, Refused, Text, Sorts, NotBuilt, Undefined, IdsSpent, NoGraph, Unwritten, OutOfMemory}
+use Rattle.gcore.specs.declared.stop.Stop.TheVariants.{Usage, Unread, TooLarge, Refused, Text, Sorts, NotBuilt, Faulted, NoGraph, Unwritten, OutOfMemory}
 
 -- where the files are told, this stop is due
 abbrev pub IsDueFor : Reading → List Pair → Stop → Type 0
@@ -26,8 +27,7 @@ StopsReadingGraphs reading pairs (Refused refusal file) = IsTurnOfGraph reading.
 StopsReadingGraphs reading pairs (Text refusal) = ⊥
 StopsReadingGraphs reading pairs (Sorts rule place) = ⊥
 StopsReadingGraphs reading pairs NotBuilt = IsDueFor reading pairs NotBuilt
-StopsReadingGraphs reading pairs (Undefined why place row) = ⊥
-StopsReadingGraphs reading pairs (IdsSpent place needed) = ⊥
+StopsReadingGraphs reading pairs (Faulted fault) = ⊥
 StopsReadingGraphs reading pairs NoGraph = ⊥
 StopsReadingGraphs reading pairs Unwritten = ⊥
 StopsReadingGraphs reading pairs OutOfMemory = ⊤
@@ -48,6 +48,5 @@ abbrev pub IsHeldStop : Stop → Type 0
 IsHeldStop (Refused refusal file) = IsHeld refusal
 IsHeldStop (Text refusal) = IsHeldText refusal
 IsHeldStop (Sorts rule place) = IsHeldPlace place
-IsHeldStop (Undefined why place row) = IsHeldPlace place × (row < 2 ^ 64)
-IsHeldStop (IdsSpent place needed) = IsHeldPlace place × (needed < 2 ^ 64)
+IsHeldStop (Faulted fault) = IsHeldFault fault
 IsHeldStop stop = ⊤

@@ -1,5 +1,6 @@
 pub mod CommandLines
 pub mod Endings
+pub mod FaultLines
 pub mod GraphLines
 pub mod GraphSteps
 pub mod Lines

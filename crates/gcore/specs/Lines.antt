@@ -5,15 +5,15 @@ use Rattle.gc_base.specs.declared.place.Place.{Place}
 use Rattle.gc_json.specs.declared.refusal.GraphRefusal.{GraphRefusal}
 use Rattle.gc_json.specs.declared.refusal.Spot.{Spot}
 use Rattle.gc_sorts.specs.declared.breach.SortRule.{SortRule}
-use Rattle.gc_values.specs.declared.val.Why.{Why}
-use Rattle.gc_values.specs.declared.val.Why.TheVariants as why
+use Rattle.gcore.specs.FaultLines.{fault_text}
 use Rattle.gcore.specs.GraphLines.{refusal_text, spot_text}
 use Rattle.gcore.specs.SortLines.{rule_text}
 use Rattle.gcore.specs.TextLines.{place_text, text_refusal_text}
+use Rattle.gcore.specs.declared.placed_fault.PlacedFault.{PlacedFault}
 use Rattle.gcore.specs.declared.status.Status.{Status}
 use Rattle.gcore.specs.declared.status.Status.TheVariants as status
 use Rattle.gcore.specs.declared.stop.Stop.{Stop}
-use Rattle.gcore.specs.declared.stop.Stop.TheVariants.{Usage, Unread, TooLarge, Refused, Text, Sorts, NotBuilt, Undefined, IdsSpent, NoGraph, Unwritten, OutOfMemory}
+use Rattle.gcore.specs.declared.stop.Stop.TheVariants.{Usage, Unread, TooLarge, Refused, Text, Sorts, NotBuilt, Faulted, NoGraph, Unwritten, OutOfMemory}
 use Rattle.gcore.specs.declared.text_refusal.TextRefusal.{TextRefusal}
 
 -- a line begins with the program's name and ends with a line feed
@@ -32,15 +32,9 @@ text_line refusal = line (text_refusal_text refusal)
 abbrev pub sort_line : SortRule → Place → List ℕ
 sort_line rule place = line (place_text (rule_text rule) place)
 
--- a fault with its code
-abbrev pub why_text : Why → List ℕ
-why_text why.Overflow = codes "F1 Overflow"
-why_text why.ZeroDivisor = codes "F2 ZeroDivisor"
-why_text why.WrongKind = codes "F3 WrongKind"
-
--- the line of a fault at a place, with a number
-abbrev pub fault_line : (rule : List ℕ) → Place → (word : List ℕ) → ℕ → List ℕ
-fault_line rule place word number = line (place_text rule place ++ (word ++ decimal number))
+-- the line of a fault
+abbrev pub placed_line : PlacedFault → List ℕ
+placed_line fault = line (fault_text fault)
 
 -- the line of each stop
 abbrev pub line_of : Stop → List ℕ
@@ -51,8 +45,7 @@ line_of (Refused refusal file) = refusal_line refusal file
 line_of (Text refusal) = text_line refusal
 line_of (Sorts rule place) = sort_line rule place
 line_of NotBuilt = line (codes "not built")
-line_of (Undefined why place row) = fault_line (why_text why) place (codes " row ") row
-line_of (IdsSpent place needed) = fault_line (codes "F6 IdsSpent") place (codes " needed ") needed
+line_of (Faulted fault) = placed_line fault
 line_of NoGraph = line (codes "not built")
 line_of Unwritten = line (codes "cannot write")
 line_of OutOfMemory = line (codes "out of memory")
@@ -89,8 +82,7 @@ status_of (Refused refusal file) = status.Graph
 status_of (Text refusal) = status.Text
 status_of (Sorts rule place) = status.Sorts
 status_of NotBuilt = status.NotBuilt
-status_of (Undefined why place row) = status.Fault
-status_of (IdsSpent place needed) = status.Fault
+status_of (Faulted fault) = status.Fault
 status_of NoGraph = status.NotBuilt
 status_of Unwritten = status.Write
 status_of OutOfMemory = status.Memory

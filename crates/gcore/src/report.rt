@@ -1,10 +1,13 @@
 ghost use Rattle.std.specs.Prelude.{◌≡◌, ◌++◌, codes, length};
 ghost use Rattle.gc_base.specs.Sinks.{HasRoom};
 ghost use Rattle.gc_io.specs.Pieces.{joined};
-ghost use Rattle.gcore.specs.Lines.{line, line_of, refusal_line, spot_line, item_line, digits_line, text_line, sort_line, place_line, numbers_line, counted_line, fault_line, why_text};
+ghost use Rattle.gcore.specs.Lines.{line, line_of, refusal_line, spot_line, item_line, digits_line, text_line, sort_line, place_line, numbers_line, counted_line, placed_line};
+ghost use Rattle.std.specs.Fmt.{decimal};
+ghost use Rattle.gcore.specs.FaultLines.{told_text, why_text};
 ghost use Rattle.gcore.specs.SortLines.{rule_text};
 ghost use Rattle.gcore.specs.Endings.{Change, Tells};
 
+use crate::placed_fault::PlacedFault;
 use crate::stop::Stop;
 use crate::text_refusal::TextRefusal;
 use gc_base::Place;
@@ -33,12 +36,7 @@ pub fn tell<T: Sink>(stop: &Stop, err: &mut T)
         Stop::Sorts(rule, place) => tell_sorts(err, *rule, *place),
         Stop::NotBuilt => tell_line(err, b"not built", b""),
         Stop::NoGraph => tell_line(err, b"not built", b""),
-        Stop::Undefined(why, place, row) => {
-            tell_fault(err, why_text(*why), *place, b" row ", *row);
-        }
-        Stop::IdsSpent(place, needed) => {
-            tell_fault(err, b"F6 IdsSpent", *place, b" needed ", *needed);
-        }
+        Stop::Faulted(fault) => tell_fault(err, fault),
         Stop::Unwritten => tell_line(err, b"cannot write", b""),
         Stop::OutOfMemory => tell_line(err, b"out of memory", b""),
     }
@@ -277,49 +275,88 @@ fn why_text(why: Why) -> &'static [u8]
     }
 }
 
-// The line of a fault of evaluation at a place, with a number.
-fn tell_fault<T: Sink>(err: &mut T, rule: &[u8], place: Place, word: &[u8], number: u64)
-    requires { HasRoom (T.room err.old) (length (fault_line rule.now place word.now number)) }
+// The line of a fault of evaluation.
+fn tell_fault<T: Sink>(err: &mut T, fault: &PlacedFault)
+    requires { HasRoom (T.room err.old) (length (placed_line fault.now)) }
     ensures { Tells (record {
       faults_before = T.faults err.old;
       faults_after = T.faults err.new;
       taken_before = T.taken err.old;
       taken_after = T.taken err.new;
-    }) (fault_line rule.now place word.now number) }
+    }) (placed_line fault.now) }
+{
+    match fault {
+        PlacedFault::Undefined(why, place, row) => {
+            tell_number(err, why_text(*why), *place, b" row ", *row);
+        }
+        PlacedFault::BadCost(place, walk) => {
+            tell_behind(err, b"F4 BadCost", *place, b" walk ", walk.as_slice());
+        }
+        PlacedFault::CostPastRange(place, row) => {
+            tell_number(err, b"F5 CostPastRange", *place, b" row ", *row);
+        }
+        PlacedFault::IdsSpent(place, needed) => {
+            tell_number(err, b"F6 IdsSpent", *place, b" needed ", *needed);
+        }
+    }
+}
+
+// The line of a code at a place, with a word and a number.
+fn tell_number<T: Sink>(err: &mut T, code: &[u8], place: Place, word: &[u8], number: u64)
+    requires { HasRoom (T.room err.old) (length (line (told_text code.now place word.now (decimal number)))) }
+    ensures { Tells (record {
+      faults_before = T.faults err.old;
+      faults_after = T.faults err.new;
+      taken_before = T.taken err.old;
+      taken_after = T.taken err.new;
+    }) (line (told_text code.now place word.now (decimal number))) }
+{
+    let mut digits = Buffer::new();
+    tell_behind(err, code, place, word, digits.format(number).as_bytes());
+}
+
+// The line of a code at a place, with a word and what stands behind it.
+fn tell_behind<T: Sink>(err: &mut T, code: &[u8], place: Place, word: &[u8], behind: &[u8])
+    requires { HasRoom (T.room err.old) (length (line (told_text code.now place word.now behind.now))) }
+    ensures { Tells (record {
+      faults_before = T.faults err.old;
+      faults_after = T.faults err.new;
+      taken_before = T.taken err.old;
+      taken_after = T.taken err.new;
+    }) (line (told_text code.now place word.now behind.now)) }
 {
     let mut line = Buffer::new();
     let mut column = Buffer::new();
-    let mut count = Buffer::new();
     tell_counted(
         err,
-        rule,
+        code,
         line.format(place.line).as_bytes(),
         column.format(place.column).as_bytes(),
         word,
-        count.format(number).as_bytes(),
+        behind,
     );
 }
 
 fn tell_counted<T: Sink>(
     err: &mut T,
-    rule: &[u8],
+    code: &[u8],
     line: &[u8],
     column: &[u8],
     word: &[u8],
-    number: &[u8],
+    behind: &[u8],
 )
-    requires { HasRoom (T.room err.old) (length (counted_line rule.now line.now column.now word.now number.now)) }
+    requires { HasRoom (T.room err.old) (length (counted_line code.now line.now column.now word.now behind.now)) }
     ensures { Tells (record {
       faults_before = T.faults err.old;
       faults_after = T.faults err.new;
       taken_before = T.taken err.old;
       taken_after = T.taken err.new;
-    }) (counted_line rule.now line.now column.now word.now number.now) }
+    }) (counted_line code.now line.now column.now word.now behind.now) }
 {
     tell_pieces(
         err,
         &[
-            b"gcore: ", rule, b" ", line, b":", column, word, number, b"\n",
+            b"gcore: ", code, b" ", line, b":", column, word, behind, b"\n",
         ],
     );
 }

@@ -1,4 +1,4 @@
-ghost use Rattle.std.specs.Prelude.{◌≡◌, ◌<◌, true, length, IfOk, OnOk};
+ghost use Rattle.std.specs.Prelude.{◌≡◌, ◌<◌, ◌⊎◌, true, length, IfOk, OnOk};
 ghost use Rattle.gc_ast.specs.QueryViews.{file_trees};
 ghost use Rattle.gc_base.specs.Sinks.{HasRoom, room_after};
 ghost use Rattle.gc_lower.specs.Namings.{file_of, scope_of};
@@ -8,8 +8,11 @@ ghost use Rattle.gcore.specs.Endings.{Change, HoldsTexts, RunsSession, WritesTex
 ghost use Rattle.gcore.specs.Outcomes.{Request, free_above, printed};
 ghost use Rattle.gcore.specs.QueryFiles.{place_at, placed};
 ghost use Rattle.gcore.specs.SessionSteps.{HoldsPrinted, RunsStatementAt, Turn};
+ghost use Rattle.gcore.specs.declared.stop.Stop.TheVariants.{OutOfMemory};
 
+use crate::placed_fault::PlacedFault;
 use crate::stop::Stop;
+use crate::walk_text::walk_text;
 use gc_base::{Bytes, Memory, Place, Steps};
 use gc_catalog::Catalog;
 use gc_io::{Sink, SinkFault, write_whole};
@@ -65,18 +68,29 @@ fn run_statement<S: Sink, L: Ledger>(
     match step(alloc, checked, i, catalog, steps) {
         Ok(Some(graph)) => write_graph(alloc, &graph, out, steps),
         Ok(None) => Ok(()),
-        Err(QueryRefusal::Fault(fault)) => Err(stop_of(checked, fault)),
+        Err(QueryRefusal::Fault(fault)) => Err(stop_of(alloc, checked, &fault)),
         Err(QueryRefusal::Memory) => Err(Stop::OutOfMemory),
     }
 }
 
-// A fault as a stop, with the place of its token.
-fn stop_of(checked: &Checked, fault: Fault) -> Stop
-    ensures { result ≡ stop_of_fault (placed checked.now).places fault }
+// A fault as a stop, with the place of its token, or want of memory.
+fn stop_of(alloc: Global, checked: &Checked, fault: &Fault) -> Stop
+    ensures { (result ≡ stop_of_fault (placed checked.now).places fault.now) ⊎ (result ≡ OutOfMemory) }
 {
     match fault {
-        Fault::Undefined { at, row, why } => Stop::Undefined(why, place_at(checked, at), row),
-        Fault::IdsSpent { at, needed } => Stop::IdsSpent(place_at(checked, at), needed),
+        Fault::Undefined { at, row, why } => {
+            Stop::Faulted(PlacedFault::Undefined(*why, place_at(checked, *at), *row))
+        }
+        Fault::BadCost { at, walk } => match walk_text(alloc, walk) {
+            Ok(text) => Stop::Faulted(PlacedFault::BadCost(place_at(checked, *at), text)),
+            Err(Memory) => Stop::OutOfMemory,
+        },
+        Fault::CostPastRange { at, row } => {
+            Stop::Faulted(PlacedFault::CostPastRange(place_at(checked, *at), *row))
+        }
+        Fault::IdsSpent { at, needed } => {
+            Stop::Faulted(PlacedFault::IdsSpent(place_at(checked, *at), *needed))
+        }
         Fault::NoGraph => Stop::NoGraph,
     }
 }

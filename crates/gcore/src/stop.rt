@@ -1,9 +1,10 @@
-ghost use Rattle.std.specs.Prelude.{◌≡◌, ◌<◌, ◌^◌};
+ghost use Rattle.std.specs.Prelude.{◌≡◌};
 ghost use Rattle.gcore.specs.GraphLines.{IsHeld, IsHeldSpot};
 ghost use Rattle.gcore.specs.Lines.{line_of, status_of};
 ghost use Rattle.gcore.specs.TextLines.{IsHeldText, IsHeldPlace};
 
 use crate::command::CommandRefusal;
+use crate::placed_fault::{PlacedFault, known_place};
 use crate::status::Status;
 use crate::text_refusal::TextRefusal;
 use gc_base::{Memory, Place, Str};
@@ -11,7 +12,6 @@ use gc_io::SinkFault;
 use gc_json::{GraphRefusal, Spot};
 use gc_lex::LexRefusal;
 use gc_sorts::SortRule;
-use gc_values::Why;
 
 /// Why a call ends without being done, with the word of the file that it is about.
 #[derive(Debug, Drop)]
@@ -30,10 +30,8 @@ pub enum Stop {
     Sorts(SortRule, Place),
     /// What is asked for is not built yet.
     NotBuilt,
-    /// A statement's assignment is undefined on a row of this number, at a place.
-    Undefined(Why, Place, u64),
-    /// A statement needs so many new identities that they would pass the largest, at a place.
-    IdsSpent(Place, u64),
+    /// A statement has a fault.
+    Faulted(PlacedFault),
     /// What a statement claims is no graph.
     NoGraph,
     /// The output failed.
@@ -55,8 +53,7 @@ impl Stop {
             Stop::Text(_) => Status::Text,
             Stop::Sorts(_, _) => Status::Sorts,
             Stop::NotBuilt => Status::NotBuilt,
-            Stop::Undefined(_, _, _) => Status::Fault,
-            Stop::IdsSpent(_, _) => Status::Fault,
+            Stop::Faulted(_) => Status::Fault,
             Stop::NoGraph => Status::NotBuilt,
             Stop::Unwritten => Status::Write,
             Stop::OutOfMemory => Status::Memory,
@@ -75,8 +72,7 @@ impl Stop {
             Stop::Refused(refusal, _) => known_refusal(refusal),
             Stop::Text(refusal) => known_text(*refusal),
             Stop::Sorts(_, place) => known_place(*place),
-            Stop::Undefined(_, place, row) => known_fault(*place, *row),
-            Stop::IdsSpent(place, needed) => known_fault(*place, *needed),
+            Stop::Faulted(fault) => fault.known(),
             _ => {}
         }
     }
@@ -124,22 +120,6 @@ fn known_text(refusal: TextRefusal)
         TextRefusal::TooDeep(place) => known_place(place),
         TextRefusal::Syntax(place) => known_place(place),
     }
-}
-
-// That a place and a number are as the machine holds them, for a proof.
-fn known_fault(place: Place, number: u64)
-    ensures place { IsHeldPlace place }
-    ensures number { number < 2 ^ 64 }
-{
-    known_place(place);
-}
-
-// That a place is as the machine holds it, for a proof.
-fn known_place(place: Place)
-    ensures { IsHeldPlace place }
-{
-    let _line = place.line;
-    let _column = place.column;
 }
 
 impl From<Memory> for Stop {

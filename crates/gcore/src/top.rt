@@ -26,7 +26,7 @@ pub fn gcore<F: Folder, S: Sink, T: Sink, L: Ledger>(
     steps: &mut Steps<L>,
 ) -> Status
     requires out_room { HoldsText (S.room out.old) (F.files folder.old) (command_of (map string_bytes words.now)) }
-    requires err_room { HoldsLines (T.room err.old) (command_of (map string_bytes words.now)) }
+    requires err_room { HoldsLines (T.room err.old) (F.files folder.old) (command_of (map string_bytes words.now)) }
     ensures ends { Ends
         (record {
           command = command_of (map string_bytes words.now);

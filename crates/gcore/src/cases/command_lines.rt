@@ -74,30 +74,6 @@ why-is-no-form-yet
 $ why 1 q g=a
 = 2 gcore: usage
 
-all-paths-not-built
-$ run q S=s
-q: CONSTRUCT (n)-/p/->(m) MATCH (n)-/ALL p<:knows :knows>/->(m) WHERE n.name = "Ann" AND m.name = "Cem"
-s: «S»
-= 11 gcore: not built
-
-found-path-not-built
-$ run q S=s
-q: CONSTRUCT (n)-/@p/->(m) MATCH (n)-/4 SHORTEST p<:knows*>/->(m) WHERE n.name = "Ann" AND m.name = "Cem"
-s: «S»
-= 11 gcore: not built
-
-view-not-built
-$ run q S=s
-q: PATH w = (x)-[e:knows]->(y) COST 10/(1+e.msgs) CONSTRUCT (n)-/@p {cost:=c}/->(m) MATCH (n)-/p<~w*> COST c/->(m) WHERE n.name = "Ann" AND m.name = "Cem"
-s: «S»
-= 11 gcore: not built
-
-friends-on-the-way-to-wagner-not-built
-$ run q social=w
-q: «friends»
-w: «W»
-= 11 gcore: not built
-
 graph-named-date-accepted
 $ run q DATE=a
 a: «labels»

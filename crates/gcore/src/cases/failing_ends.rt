@@ -6,10 +6,14 @@ use super::{Failing, seen};
 use std::alloc::Global;
 use std::test::Fail;
 
+const WORDS: &str = "run q g=a";
+
 const FILES: &str = "a: «labels»\nq: CONSTRUCT (v) MATCH (v:Person)";
 
-// How the outside fails, and what the call must come to.
+// A call, how the outside fails, and what the call must come to.
 struct End {
+    words: &'static str,
+    files: &'static str,
     failing: Failing<'static>,
     status: u8,
     out: &'static str,
@@ -18,6 +22,8 @@ struct End {
 }
 
 const FIRST_READ_FAILS: End = End {
+    words: WORDS,
+    files: FILES,
     failing: Failing {
         folder_fails: &[0],
         out_fails: &[],
@@ -30,6 +36,8 @@ const FIRST_READ_FAILS: End = End {
 };
 
 const FIRST_WRITE_FAILS: End = End {
+    words: WORDS,
+    files: FILES,
     failing: Failing {
         folder_fails: &[],
         out_fails: &[0],
@@ -42,6 +50,8 @@ const FIRST_WRITE_FAILS: End = End {
 };
 
 const THIRD_WRITE_FAILS: End = End {
+    words: WORDS,
+    files: FILES,
     failing: Failing {
         folder_fails: &[],
         out_fails: &[2],
@@ -54,6 +64,8 @@ const THIRD_WRITE_FAILS: End = End {
 };
 
 const ONE_BYTE_AT_A_TIME: End = End {
+    words: WORDS,
+    files: FILES,
     failing: Failing {
         folder_fails: &[],
         out_fails: &[],
@@ -65,10 +77,24 @@ const ONE_BYTE_AT_A_TIME: End = End {
     err: "",
 };
 
+const FRIENDS_ONE_BYTE_AT_A_TIME: End = End {
+    words: "run q social=w",
+    files: "q: «friends»\nw: «W»",
+    failing: Failing {
+        folder_fails: &[],
+        out_fails: &[],
+        out_most: 1,
+    },
+    status: 0,
+    out: "{\"edges\":[{\"from\":1,\"id\":21,\"labels\":[\"wagnerFriend\"],\"properties\":{\"score\":[1]},\"to\":2}],\"gcore\":1,\"nodes\":[{\"id\":1,\"labels\":[\"Person\"],\"properties\":{\"firstName\":[\"John\"]}},{\"id\":2,\"labels\":[\"Person\"],\"properties\":{\"firstName\":[\"Peter\"]}}],\"paths\":[]}\n",
+    out_calls: 253,
+    err: "",
+};
+
 fn holds(alloc: Global, end: &End) -> Result<bool, Fail>
     requires { 0 < end.now.failing.out_most }
 {
-    let seen = seen(alloc, "run q g=a", FILES, &end.failing)?;
+    let seen = seen(alloc, end.words, end.files, &end.failing)?;
     Ok(
         seen.status == end.status
             && seen.out.as_slice() == end.out.as_bytes()
@@ -83,5 +109,6 @@ fn failing_ends_come_to_what_is_due(rt: HostRuntime) -> Result<(), Fail> {
     assert!(rt; holds(rt.alloc(), &FIRST_WRITE_FAILS)?);
     assert!(rt; holds(rt.alloc(), &THIRD_WRITE_FAILS)?);
     assert!(rt; holds(rt.alloc(), &ONE_BYTE_AT_A_TIME)?);
+    assert!(rt; holds(rt.alloc(), &FRIENDS_ONE_BYTE_AT_A_TIME)?);
     Ok(())
 }

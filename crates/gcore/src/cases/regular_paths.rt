@@ -1,4 +1,4 @@
-// Patterns that ask for some walk between two nodes.
+// Patterns that ask for some walk between two nodes, or for all of them.
 use super::first_failing;
 use std::test::Fail;
 
@@ -63,6 +63,18 @@ $ run q S=s
 q: CONSTRUCT (m) MATCH (n)-/<:knows>/->(m)-/<:knows>/->(k), (n)-/<:knows :knows>/->(k) WHERE n.name = "Ann"
 s: «S»
 = 0 {"edges":[],"gcore":1,"nodes":[«N2»,«N4»],"paths":[]}
+
+all-walks-of-two-edges-projected
+$ run q S=s
+q: CONSTRUCT (n)-/p/->(m) MATCH (n)-/ALL p<:knows :knows>/->(m) WHERE n.name = "Ann" AND m.name = "Cem"
+s: «S»
+= 0 {"edges":[«E11»,«E12»,«E13»,«E14»,«E17»],"gcore":1,"nodes":[«N1»,«N2»,«N3»,«N4»],"paths":[]}
+
+all-walks-between-nodes-that-have-none
+$ run q S=s
+q: CONSTRUCT (n), (m)-/p/->(n) MATCH (n) OPTIONAL (n)-[:knows]->(m), (m)-/ALL p<:knows>/->(n)
+s: «S»
+= 0 {"edges":[«E16»],"gcore":1,"nodes":[«N1»,«N2»,«N3»,«N4»,«N5»],"paths":[]}
 "##;
 
 #[test]

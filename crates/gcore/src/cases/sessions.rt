@@ -107,11 +107,11 @@ a: {"gcore":1,"nodes":[{"id":3}]}
 q: GRAPH VIEW v AS (CONSTRUCT (x) MATCH (n)); CONSTRUCT (y) MATCH (n) ON v; v INTERSECT (CONSTRUCT (n) MATCH (n) ON v)
 = 0 {"edges":[],"gcore":1,"nodes":[{"id":5,"labels":[],"properties":{}}],"paths":[]}«line»{"edges":[],"gcore":1,"nodes":[{"id":4,"labels":[],"properties":{}}],"paths":[]}
 
-a-view-of-paths-not-built
+a-view-of-paths-that-nothing-uses
 $ run q g=a
 a: {"gcore":1,"nodes":[{"id":3}]}
 q: PATH w = (x)-[e]->(y) CONSTRUCT (n) MATCH (n)
-= 11 gcore: not built
+= 0 {"edges":[],"gcore":1,"nodes":[{"id":3,"labels":[],"properties":{}}],"paths":[]}
 
 minus-takes-the-path-of-a-missing-node
 $ run q g=a

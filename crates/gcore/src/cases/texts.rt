@@ -171,11 +171,11 @@ a: «labels»
 q: x«line» é
 = 3 gcore: L2 BadCharacter 2:2
 
-two-alternatives-and-a-star-not-built
+two-alternatives-and-a-star
 $ run q g=a
 a: «labels»
 q: PATH v = (x)-[]->(y) CONSTRUCT (n) MATCH (n)-/<:knows- | _* (!:Person ~v)>/->(m)
-= 11 gcore: not built
+= 0 {"edges":[],"gcore":1,"nodes":[],"paths":[]}
 
 expression-in-two-brackets
 $ run q g=a

@@ -4,4 +4,4 @@ use Rattle.gc_build.proofs.made.each_made.Given as goal
 
 -- the variables so far
 abbrev pub invariant-loop-variable : goal.invariant-loop-variable
-invariant-loop-variable l = l.made.items ≡ map (made_at l.making l.place) (take l.variable-index l.variables)
+invariant-loop-variable l = l.made.items ≡ map (made_at l.making l.place l.row) (take l.variable-index l.variables)

@@ -1,25 +1,59 @@
-use Rattle.std.proofs.Common.{List, ap, sym, subst, ◌∙◌}
+use Rattle.std.proofs.Common.{◌≡◌, Err, List, None, ap, sym, ◌∙◌}
 use Rattle.gc_ast.specs.QueryViews.{basic_tree}
-use Rattle.gc_ast.specs.declared.query.Basic.{out-Basic}
+use Rattle.gc_alg.specs.Views.{block_tree}
 use Rattle.gc_expr.specs.Views.{Names}
-use Rattle.gc_base.specs.declared.place.Sym.{Sym}
-use Rattle.gc_build_reading.specs.Recipes.{recipe_of}
 use Rattle.gc_lower.specs.Scopes.{Scope}
-use Rattle.gc_query.specs.Answered.{Rises, names_in, scope_in}
-use Rattle.gc_query.specs.Built.{no_walks}
-use Rattle.gc_query.proofs.BasicsMade.{basic_is, rises}
+use Rattle.gc_rows.specs.declared.row.Binding.{Binding}
+use Rattle.gc_query.specs.Answered.{names_in, scope_in}
+use Rattle.gc_query.specs.Basics.{Comes, DenotesBasic}
+use Rattle.gc_query.specs.Built.{are_searched}
+use Rattle.gc_query.specs.Costs.{costs_of, first_past}
+use Rattle.gc_query.specs.Segments.{HasSegments}
+use Rattle.gc_query.specs.declared.costs.CostAt.{CostAt}
+use Rattle.gc_query.specs.Standings.{Standing}
+use Rattle.gc_query.proofs.BasicsMade.{cost_fails, costs_fit, view_fails}
+use Rattle.gc_query.proofs.Outcomes.{passes_on, refused}
 use Rattle.gc_query.proofs.basics.basic_made.Goals as goal
 
-pub table_of-requires : goal.table_of-requires
-table_of-requires g c = ap no_walks c.in_ok-lowered.ensures.is_block ∙ c.requires.walks
+pub table_of-requires-clause-searched : goal.table_of-requires-clause-searched
+table_of-requires-clause-searched g c = ap are_searched c.in_ok-lowered.ensures.is_block ∙ c.requires.walks
 
-pub returns-clause-rises : goal.returns-clause-rises
-returns-clause-rises g c = subst (Rises c.args.next) (sym c.made_of.ensures) (rises _ _ c.args.next (out-Basic c.args.basic.now).token c.construct.result c.construct.ensures)
+pub table_made-requires-clause-block : goal.table_made-requires-clause-block
+table_made-requires-clause-block g c = c.in_ok-lowered.ensures.is_block
+
+pub table_made-requires-clause-walks : goal.table_made-requires-clause-walks
+table_made-requires-clause-walks g c = ap are_searched c.in_ok-lowered.ensures.is_block ∙ c.requires.walks
+
+pub returns-in_err-segments-clause-due : goal.returns-in_err-segments-clause-due
+returns-in_err-segments-clause-due g c =
+    let s : Scope = scope_in c.args.session.now in
+    let names : Names = names_in c.args.session.now in
+    let at : Standing = record { graphs = c.args.graphs.now; next = c.args.next } in
+    refused (λ fault. HasSegments s at.graphs (block_tree c.in_ok-lowered.lowered.block) (Err fault)) c.in_err-segments.field-0.0 c.in_err-segments.ensures.due
+    (DenotesBasic s at (basic_tree names c.args.basic.now)) c.from_residual-in_err-segments.result c.from_residual-in_err-segments.ensures.0 c.from_residual-in_err-segments.ensures.1
+    (λ fault h. view_fails s names at c.args.basic.now c.in_ok-lowered.lowered.block c.in_ok-lowered.ensures.is_block fault h)
+
+pub returns-in-Some-clause-due : goal.returns-in-Some-clause-due
+returns-in-Some-clause-due g c =
+    let s : Scope = scope_in c.args.session.now in
+    let names : Names = names_in c.args.session.now in
+    let at : Standing = record { graphs = c.args.graphs.now; next = c.args.next } in
+    cost_fails s names at c.args.basic.now c.in_ok-lowered.lowered.block c.in_ok-lowered.ensures.is_block c.in_ok-segments.segments
+    c.in_ok-segments.ensures.due
+    c.in_ok-table.table c.in_ok-table.ensures c.in-Some.past
+    (sym (c.first_past.ensures ∙ (ap (λ (costs : List CostAt). first_past costs c.as_slice.result.now) (c.deref.ensures.value ∙ c.in_ok-costs.ensures)
+    ∙ ap (λ (rows : List (List Binding)). first_past (costs_of s (basic_tree names c.args.basic.now)) rows) (c.as_slice.ensures ∙ c.rows.ensures.rows))) ∙ c.in-Some.is)
 
 pub returns-clause-due : goal.returns-clause-due
 returns-clause-due g c =
     let s : Scope = scope_in c.args.session.now in
     let names : Names = names_in c.args.session.now in
-    basic_is s names (record { graphs = c.args.graphs.now; next = c.args.next }) c.args.basic.now c.in_ok-lowered.lowered.block c.in_ok-lowered.ensures.is_block c.in_ok-table.table c.in_ok-table.ensures
-    c.in_ok-recipe.recipe
-    (c.in_ok-recipe.ensures ∙ ap (λ (bound : List Sym). recipe_of s bound (basic_tree names c.args.basic.now)) (c.as_slice-bound.ensures ∙ c.schema.ensures)) c.construct.result c.construct.ensures c.made_of.result c.made_of.ensures
+    let at : Standing = record { graphs = c.args.graphs.now; next = c.args.next } in
+    let none : first_past (costs_of s (basic_tree names c.args.basic.now)) c.in_ok-table.table.rows ≡ None =
+    sym (c.first_past.ensures ∙ (ap (λ (costs : List CostAt). first_past costs c.as_slice.result.now) (c.deref.ensures.value ∙ c.in_ok-costs.ensures)
+    ∙ ap (λ (rows : List (List Binding)). first_past (costs_of s (basic_tree names c.args.basic.now)) rows) (c.as_slice.ensures ∙ c.rows.ensures.rows))) ∙ c.in_default.is in
+    passes_on (DenotesBasic s at (basic_tree names c.args.basic.now)) (Comes s at (basic_tree names c.args.basic.now) c.in_ok-segments.segments c.in_ok-table.table) c.table_made.result
+    (λ outcome h. costs_fit s names at c.args.basic.now c.in_ok-lowered.lowered.block c.in_ok-lowered.ensures.is_block c.in_ok-segments.segments
+    c.in_ok-segments.ensures.due
+    c.in_ok-table.table c.in_ok-table.ensures none outcome h)
+    c.table_made.ensures.due

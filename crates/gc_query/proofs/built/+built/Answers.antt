@@ -7,7 +7,7 @@ use Rattle.gc_expr.specs.Views.{Names, name_of}
 use Rattle.gc_lower.specs.Blocks.{block_of}
 use Rattle.gc_lower.specs.Namings.{scope_of}
 use Rattle.gc_lower.specs.Scopes.{Scope}
-use Rattle.gc_query.specs.Built.{built, no_walks}
+use Rattle.gc_query.specs.Built.{built, are_searched}
 use Rattle.gc_query.proofs.AllOf.{got}
 use Rattle.gc_query.proofs.BuiltParts.{of_basic, of_inner, of_next}
 use Rattle.gc_query.proofs.BuiltRests.{by_rest, next_holds, not_next, without_first, without_heads}
@@ -19,7 +19,7 @@ pub term_is_built-returns-in-Basic : goal.term_is_built-returns-in-Basic
 term_is_built-returns-in-Basic t c =
     let s : Scope = scope_of c.args.checked.now 0 in
     let names : Names = c.args.checked.now.file.names in
-    subst (λ due. IfOk c.basic_is_built.result (λ b. b ≡ due)) (sym (ap (λ x. built s (term_tree names x)) c.in-Basic.is ∙ (of_basic s names c.in-Basic.basic ∙ ap (λ b. no_walks (block_of s [] (basic_tree names b))) (sym c.deref.ensures)))) c.basic_is_built.ensures
+    subst (λ due. IfOk c.basic_is_built.result (λ b. b ≡ due)) (sym (ap (λ x. built s (term_tree names x)) c.in-Basic.is ∙ (of_basic s names c.in-Basic.basic ∙ ap (λ b. are_searched (block_of s [] (basic_tree names b))) (sym c.deref.ensures)))) c.basic_is_built.ensures
 
 pub term_is_built-returns-in-Graph : goal.term_is_built-returns-in-Graph
 unfolding term_by built

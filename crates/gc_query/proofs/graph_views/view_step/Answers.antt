@@ -1,4 +1,4 @@
-use Rattle.std.proofs.Common.{◌≡◌, List, Bool, true, Ok, Err, sym, ap, ◌∙◌, subst}
+use Rattle.std.proofs.Common.{◌≡◌, List, true, Ok, Err, sym, ap, ◌∙◌, subst}
 use Rattle.std.specs.List.{AllByRecursion}
 use Rattle.gc_ast.specs.PatternViews.{named}
 use Rattle.gc_ast.specs.QueryViews.{query_tree}

@@ -1,4 +1,4 @@
-use Rattle.std.proofs.Common.{◌+◌, length, drop, slice_get, Some, ◌≡◌, ◌≤◌, [], Result, Ok, Err, List, map, true, false, rules, sym, ap, ◌∙◌, subst, refl, arith}
+use Rattle.std.proofs.Common.{◌+◌, length, drop, slice_get, Some, ◌≡◌, ◌≤◌, [], Ok, Err, List, map, true, rules, sym, ap, ◌∙◌, subst, refl, arith}
 use Rattle.gc_ast.specs.declared.query.Basic.{Basic}
 use Rattle.gc_ast.specs.declared.query.Query.{Query, out-Query}
 use Rattle.gc_ast.specs.declared.construct.Change.{the_lemmas}
@@ -12,14 +12,13 @@ use Rattle.gc_lower.specs.Scopes.{Scope, number_at}
 use Rattle.gc_spec.specs.PropertyGraph.{PropertyGraph}
 use Rattle.gc_query.specs.Answered.{AreStood, IsAnswered, IsLonger, names_in, scope_in, standing_at}
 use Rattle.gc_query.specs.Basics.{DenotesBasic}
-use Rattle.gc_query.specs.Built.{built, no_walks}
+use Rattle.gc_query.specs.Built.{built, are_searched}
 use Rattle.gc_query.specs.Queries.{Combines, Denotes, DenotesTerm, Heads, Joined, named, stood}
 use Rattle.gc_query.specs.Standings.{Made, Standing}
-use Rattle.gc_query.specs.declared.fault.Fault.{Fault}
 use Rattle.gc_query.proofs.BuiltParts.{of_basic, of_inner, of_next}
 use Rattle.gc_query.proofs.BuiltRests.{first_is, heads_are, later_are, next_is, rest_is}
 use Rattle.gc_query.proofs.AllOf.{drop_at, got}
-use Rattle.gc_query.proofs.Heads.{goes_on, graph_fails, head_fails, names_graph}
+use Rattle.gc_query.proofs.Heads.{goes_on, graph_fails, head_fails, names_graph, names_view}
 use Rattle.gc_query.proofs.Outcomes.{not_stood, passes_on, refused, stands_on}
 use Rattle.gc_query.proofs.QueryParts.{path_head}
 use Rattle.gc_query.proofs.QueriesWhole.{basic_comes, inner_comes, joining_fails, joins, query_comes, term_fails, terms_come}
@@ -218,13 +217,16 @@ head_stood-query_made-requires g t c κs within =
     let e : head_tree names c.args.head.now ≡ tree.GraphHead (named_by (name_of names) c.in-Graph.name) (query_tree names c.in-Graph.query) = rw c.in-Graph.is (search (rules, the_lemmas)) in
     (search (rules, the_lemmas), (within, (sym (ap (built s) e) ∙ c.requires.built, (c.requires.later, c.requires.most))))
 
-pub head_stood-unreachable-requires : goal.head_stood-unreachable-requires
-unfolding built
-head_stood-unreachable-requires g t c =
+pub head_stood-returns-in-Path-clause-due : goal.head_stood-returns-in-Path-clause-due
+head_stood-returns-in-Path-clause-due g t c =
     let s : Scope = scope_in c.args.session.now in
     let names : Names = names_in c.args.session.now in
-    let f : false ≡ true = sym (ap (built s) (ap (head_tree names) c.in-Path.is ∙ path_head names c.in-Path.name c.in-Path.chains c.in-Path.filter c.in-Path.cost)) ∙ c.requires.built in
-    absurd (cc)
+    let at : Standing = standing_at c.args.catalog.now c.args.next in
+    subst (λ t. Heads s at (tree.more t tree.none) (Ok at))
+    (sym (ap (head_tree names) c.in-Path.is ∙ path_head names c.in-Path.name c.in-Path.chains c.in-Path.filter c.in-Path.cost)) (names_view s at _ _ _ _)
+
+pub head_stood-returns-in-Path-clause-longer : goal.head_stood-returns-in-Path-clause-longer
+head_stood-returns-in-Path-clause-longer g t c = as_long c.args.catalog.now
 
 pub head_stood-returns-in_err-made-in-Graph-clause-due : goal.head_stood-returns-in_err-made-in-Graph-clause-due
 unfolding head_by query_by
@@ -238,9 +240,9 @@ head_stood-returns-in_err-made-in-Graph-clause-due g t c =
     (Heads s at (tree.more (head_tree names c.args.head.now) tree.none)) c.query_made.new.catalog c.from_residual.result c.from_residual.ensures.0 c.from_residual.ensures.1
     (λ fault d. subst (λ t. Heads s at (tree.more t tree.none) (Err fault)) (sym e) (graph_fails s at (named_by (name_of names) c.in-Graph.name) query fault d))
 
-pub head_stood-returns-clause-due : goal.head_stood-returns-clause-due
+pub head_stood-returns-in_ok-made-in-Graph-clause-due : goal.head_stood-returns-in_ok-made-in-Graph-clause-due
 unfolding head_by query_by
-head_stood-returns-clause-due g t c =
+head_stood-returns-in_ok-made-in-Graph-clause-due g t c =
     let s : Scope = scope_in c.args.session.now in
     let names : Names = names_in c.args.session.now in
     let at : Standing = standing_at c.args.catalog.now c.args.next in
@@ -255,7 +257,7 @@ pub term_made-basic_made-requires-clause-walks : goal.term_made-basic_made-requi
 term_made-basic_made-requires-clause-walks g t c =
     let s : Scope = scope_in c.args.session.now in
     let names : Names = names_in c.args.session.now in
-    ap (λ b. no_walks (block_of s [] (basic_tree names b))) c.deref.ensures ∙ (sym (of_basic s names c.in-Basic.basic) ∙ (sym (ap (λ x. built s (term_tree names x)) c.in-Basic.is) ∙ c.requires.built))
+    ap (λ b. are_searched (block_of s [] (basic_tree names b))) c.deref.ensures ∙ (sym (of_basic s names c.in-Basic.basic) ∙ (sym (ap (λ x. built s (term_tree names x)) c.in-Basic.is) ∙ c.requires.built))
 
 pub term_made-query_made-requires : goal.term_made-query_made-requires
 term_made-query_made-requires g t c κs within =

@@ -5,7 +5,7 @@ use Rattle.gcore.specs.Outcomes.{then_due, file_due, query_file_due, query_limit
 use Rattle.gcore.specs.QueryFiles.{IsFileOf, PlacedFile, placed, query_file_of}
 use Rattle.gcore.specs.Steps.{ReadsQuery}
 use Rattle.gcore.specs.declared.stop.Stop.{Stop}
-use Rattle.gcore.specs.declared.stop.Stop.TheVariants.{Usage, Unread, TooLarge, Refused, Text, Sorts, NotBuilt, Undefined, IdsSpent, NoGraph, Unwritten, OutOfMemory}
+use Rattle.gcore.specs.declared.stop.Stop.TheVariants.{Usage, Unread, TooLarge, Refused, Text, Sorts, NotBuilt, Faulted, NoGraph, Unwritten, OutOfMemory}
 use Rattle.gcore.proofs.inputs.read_query.Goals as goal
 
 -- a file that was read, and what is due of its bytes
@@ -26,8 +26,7 @@ read_file_of graphs told before after name bytes (Err Usage) f h = absurd h
 read_file_of graphs told before after name bytes (Err (Unread file)) f h = absurd h
 read_file_of graphs told before after name bytes (Err (TooLarge file)) f h = absurd h
 read_file_of graphs told before after name bytes (Err (Refused refusal file)) f h = absurd h
-read_file_of graphs told before after name bytes (Err (Undefined why place row)) f h = absurd h
-read_file_of graphs told before after name bytes (Err (IdsSpent place needed)) f h = absurd h
+read_file_of graphs told before after name bytes (Err (Faulted fault)) f h = absurd h
 read_file_of graphs told before after name bytes (Err NoGraph) f h = absurd h
 read_file_of graphs told before after name bytes (Err Unwritten) f h = absurd h
 

@@ -3,7 +3,7 @@ use Rattle.std.specs.Prelude.{codes}
 use Rattle.gcore.specs.Lines.{line, line_of}
 use Rattle.gcore.specs.Endings.{Change, Tells}
 use Rattle.gcore.specs.declared.stop.Stop.{Stop}
-use Rattle.gcore.specs.declared.stop.Stop.TheVariants.{Unread, TooLarge, Text, Sorts, NotBuilt, IdsSpent, NoGraph, Unwritten, OutOfMemory}
+use Rattle.gcore.specs.declared.stop.Stop.TheVariants.{Unread, TooLarge, Text, Sorts, NotBuilt, Faulted, NoGraph, Unwritten, OutOfMemory}
 use Rattle.gcore.proofs.report.tell.Goals as goal
 
 -- the line of a stop
@@ -38,5 +38,5 @@ returns-in-Unwritten g c = told _ c.args.stop.now Unwritten c.in-Unwritten.is c.
 pub returns-in-OutOfMemory : goal.returns-in-OutOfMemory
 returns-in-OutOfMemory g c = told _ c.args.stop.now OutOfMemory c.in-OutOfMemory.is c.tell_line-in-OutOfMemory.ensures
 
-pub returns-in-IdsSpent : goal.returns-in-IdsSpent
-returns-in-IdsSpent g c = told _ c.args.stop.now (IdsSpent c.in-IdsSpent.place c.in-IdsSpent.needed) c.in-IdsSpent.is c.tell_fault-in-IdsSpent.ensures
+pub returns-in-Faulted : goal.returns-in-Faulted
+returns-in-Faulted g c = told _ c.args.stop.now (Faulted c.in-Faulted.fault) c.in-Faulted.is c.tell_fault.ensures

@@ -1,13 +1,14 @@
 use Rattle.std.proofs.Common.{ℕ, suc, List, [], ◌∷◌, ◌++◌, map, Some, None, Option, refl, sym, subst, arith, inl, inr}
-use Rattle.std.specs.Prelude.{IsSomeAnd, Contains}
+use Rattle.std.specs.Prelude.{IfSome, IsSomeAnd, Contains}
 use Rattle.gc_base.specs.Files.{Files}
-use Rattle.gcore.specs.Endings.{Call, IsTurnOf, IsTurnOfGraph, IsTurnOfItsQuery, HasQuery, MayStop, StopsFor, graphs_of, graph_files, named_files}
+use Rattle.gcore.specs.Endings.{Call, Change, EndsAt, EndsAtFault, IsTurnOf, IsTurnOfGraph, IsTurnOfItsQuery, HasQuery, MayStop, StopsFor, graphs_of, graph_files, named_files}
 use Rattle.gcore.specs.GraphSteps.{IsHeldStop}
+use Rattle.gcore.specs.Outcomes.{IsAsked, Request, outcome}
 use Rattle.gcore.specs.declared.command.Command.{Command}
 use Rattle.gcore.specs.declared.command.Command.TheVariants.{Run, Cert, Explain, Check, Make}
 use Rattle.gcore.specs.declared.pair.Pair.{Pair}
 use Rattle.gcore.specs.declared.stop.Stop.{Stop}
-use Rattle.gcore.specs.declared.stop.Stop.TheVariants.{Usage, Unread, TooLarge, Refused, Text, Sorts, NotBuilt, Undefined, IdsSpent, NoGraph, Unwritten, OutOfMemory}
+use Rattle.gcore.specs.declared.stop.Stop.TheVariants.{Usage, Unread, TooLarge, Refused, Text, Sorts, NotBuilt, Faulted, NoGraph, Unwritten, OutOfMemory}
 use Rattle.gcore.proofs.top.gcore.Goals as goal
 
 abbrev files_of : List Pair → List (List ℕ)
@@ -48,7 +49,13 @@ has_query (Some (Explain query pairs)) told h = absurd h
 has_query (Some (Check document)) told h = absurd h
 has_query (Some (Make kind size start)) told h = absurd h
 
-may_stop : (call : Call) (stop : Stop) → IsHeldStop stop → StopsFor call stop → MayStop call.command stop
+-- what is due at a fault
+ends : (told : Option Files) (command : Option Command) (out : Change) (stop : Stop)
+    → IfSome told (λ files. (r : Request) × IsAsked (outcome command files) r × EndsAtFault r out stop) → EndsAt told command stop
+ends None command out stop h = tt
+ends (Some files) command out stop h = (h.0, h.2.0, h.2.1, h.1, h.2.2, h.2.3)
+
+may_stop : (call : Call) (stop : Stop) → IsHeldStop stop → StopsFor call stop → MayStop call.files call.command stop
 may_stop call Usage held h = tt
 may_stop call (Unread file) held h = is_named call.command call.files file h.0
 may_stop call (TooLarge file) held h = is_named call.command call.files file h.0
@@ -56,8 +63,7 @@ may_stop call (Refused refusal file) held h = (is_named_graph call.command call.
 may_stop call (Text refusal) held h = (has_query call.command call.files h.0, held)
 may_stop call (Sorts rule place) held h = (has_query call.command call.files h.0, held)
 may_stop call NotBuilt held h = tt
-may_stop call (Undefined why place row) held h = (has_query call.command call.files h.0, held.0, held.1)
-may_stop call (IdsSpent place needed) held h = (has_query call.command call.files h.0, held.0, held.1)
+may_stop call (Faulted fault) held h = (has_query call.command call.files h.0, held, ends call.files call.command call.out (Faulted fault) h.1)
 may_stop call NoGraph held h = tt
 may_stop call Unwritten held h = tt
 may_stop call OutOfMemory held h = tt

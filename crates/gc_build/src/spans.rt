@@ -1,0 +1,57 @@
+ghost use Rattle.std.specs.Prelude.{◌≡◌, ◌++◌, IfOk, OnOk};
+ghost use Rattle.std.specs.Option.{option_copied};
+ghost use Rattle.gc_rows.specs.Tables.{HasExactly};
+ghost use Rattle.gc_build.specs.AllPaths.{span_of, spans_of};
+
+use crate::kept::{Kept, has_walk};
+use crate::making::Making;
+use gc_base::{Id, Memory, Sym};
+use gc_rows::Datum;
+
+/// Two nodes between which an ALL path means all walks.
+#[derive(Clone, Copy, PartialEq, Eq, PartialOrd, Ord)]
+pub(crate) struct Span {
+    pub from: Id,
+    pub to: Id,
+}
+
+/// The spans for which a path stands in kept instances, in the order of the rows.
+pub(crate) fn spans_of(
+    making: &Making<'_>,
+    kept: &[Kept<'_>],
+    path: Sym,
+) -> Result<Vec<Span>, Memory>
+    ensures { IfOk result (λ spans. spans.items ≡ spans_of making.now kept.now path) }
+{
+    let setting = making.setting;
+    let rows = setting.table.rows().as_slice();
+    let mut spans = Vec::new(setting.alloc);
+    for (place, row) in rows.iter().enumerate() {
+        if has_walk(kept, path, place) {
+            add_span(&mut spans, row.get(path))?;
+        }
+    }
+    Ok(spans)
+}
+
+// Adds the span that a variable stands for, if it stands for one.
+fn add_span(spans: &mut Vec<Span>, datum: Option<&Datum>) -> Result<(), Memory>
+    ensures { OnOk result (spans.new.items ≡ spans.old.items ++ span_of (option_copied datum.entry)) }
+{
+    if let Some(Datum::Span { from, to }) = datum {
+        spans.push(Span {
+            from: *from,
+            to: *to,
+        })?;
+    }
+    Ok(())
+}
+
+/// The same spans, each once.
+pub(crate) fn each_once(mut spans: Vec<Span>) -> Result<Vec<Span>, Memory>
+    ensures { IfOk result (λ once. HasExactly spans.items once.items) }
+{
+    spans.sort()?;
+    spans.dedup();
+    Ok(spans)
+}

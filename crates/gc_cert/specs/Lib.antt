@@ -1,0 +1,4 @@
+pub mod Acceptance
+pub mod Potentials
+pub mod Runs
+pub mod Shortest

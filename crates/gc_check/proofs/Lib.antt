@@ -1,0 +1,10 @@
+pub mod Bounds
+pub mod Bundles
+pub mod Conforming
+pub mod Following
+pub mod HopPrices
+pub mod Lookups
+pub mod Nodes
+pub mod Refusals
+pub mod Soundness
+pub mod Tested

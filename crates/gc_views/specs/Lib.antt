@@ -1,0 +1,3 @@
+pub mod Namings
+pub mod Segments
+pub mod Views

@@ -1,0 +1,2 @@
+pub mod SearchableTrees
+pub mod UsedSegments
