@@ -4,7 +4,6 @@ pub mod Places
 pub mod LoadedSlots
 pub mod Rows
 pub mod UsePlaces
-pub mod ConstructTrees
 pub mod OptionalTokens
 pub mod Chains
 pub mod RuleRows

@@ -1,4 +1,4 @@
-// Query files at the limit of their size and one past it. Graph files of 32 MiB are left to the program itself.
+// Query files and graph files at the limits of their sizes and one past them.
 use super::first_failing;
 use std::test::Fail;
 
@@ -14,6 +14,24 @@ $ run q g=a
 a: «labels»
 q: «1048576× »
 = 3 gcore: P2 Syntax 1:1048577
+
+graph-file-one-byte-past-the-limit-refused
+$ run q g=a
+a: «33554433× »
+q: CONSTRUCT (v) MATCH (v:Person)
+= 10 gcore: too large a
+
+graph-file-of-spaces-at-the-limit-g1
+$ run q g=a
+a: «33554432× »
+q: CONSTRUCT (v) MATCH (v:Person)
+= 5 gcore: G1 NotJson in a
+
+one-element-too-many-g11
+$ run q g=a
+a: {"gcore":1,"nodes":[«1000000×{},»{}]}
+q: CONSTRUCT (v) MATCH (v:Person)
+= 5 gcore: G11 TooMany in a
 "##;
 
 #[test]
