@@ -1,6 +1,6 @@
 -- The reader of whole files is right: what it gives is spelled, where it is stuck no list that begins so
 -- is a file, and what is spelled it reads.
-use Rattle.std.proofs.Common.{◌≡◌, refl, sym, ap, ◌∙◌, subst, ℕ, zero, suc, ◌+◌, ◌-◌, ◌<◌, ◌≤◌, le_refl, not-suc-le-zero, length-append, List, [], length, take}
+use Rattle.std.proofs.Common.{◌≡◌, refl, sym, ap, ◌∙◌, subst, ℕ, zero, suc, ◌+◌, ◌-◌, ◌<◌, le_refl, not-suc-le-zero, length-append, List, [], length, take}
 use Rattle.gc_lex.specs.declared.token.Token.{Token}
 use Rattle.gc_ast.specs.Trees.{Tree, AStatement}
 use Rattle.gc_grammar.specs.Words.{Point}
@@ -13,6 +13,8 @@ use Rattle.gc_parse_readers.proofs.Outlines.{statement_outline}
 use Rattle.gc_parse_readers.proofs.QueryRight.{right_statement}
 use Rattle.gc_parse_readers.proofs.Statements.{later_begins, later_right, file_of_listed, listed_of_file}
 use Rattle.gc_parse_readers.proofs.Whole.{split_at}
+use Rattle.gc_parse_readers.specs.Refusals.{IsRefusedAt}
+use Rattle.gc_parse_readers.proofs.FileViable.{file_begins}
 use Rattle.gc_parse_readers.proofs.WholeLists.{WholeSound, WholeRight, whole_made, whole_both, whole_same}
 use native.Mathlib.Omega.{arith}
 
@@ -50,14 +52,14 @@ file_complete zero ts statements short spelled = absurd (not-suc-le-zero short)
 file_complete (suc room) ts statements short spelled =
     sym (reader_at room ts) ∙ (right_file room room spelled.1.0).complete start spelled.0 ts statements spelled.1.1 short
 
--- where the reader is stuck there is a token or the end, and no list that begins so is a file
+-- where the reader is stuck there is a token or the end, the tokens before it begin a file, and no list that begins so is one
 pub file_refused : (room place : ℕ) (ts : List Token) → length ts < room → read_file room (nested (room - 1)) start ts ≡ Stuck place
-    → (place ≤ length ts)
-    × ((us : List Token) (statements : List (Tree AStatement)) → take (place + 1) us ≡ take (place + 1) ts → SpellsFile us statements → ⊥)
+    → IsRefusedAt SpellsFile ts place
 file_refused zero place ts short stuck = absurd (not-suc-le-zero short)
 file_refused (suc room) place ts short stuck = (
   (let refused = refused_at 0 in
       omega (arith, refused.at, ap length refused.whole, length-append refused.used refused.rest)),
+  file_begins room place ts short (reader_at room ts ∙ stuck),
   λ us statements same spelled.
       let n = length us in
       let refused = refused_at n in

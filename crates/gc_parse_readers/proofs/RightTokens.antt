@@ -113,7 +113,7 @@ mark_of_kind mark.LowLine = refl
 same_mark : (m other : Mark) → mark_kind m ≡ mark_kind other → m ≡ other
 same_mark m other same = sym (mark_of_kind m) ∙ ap mark_of same ∙ mark_of_kind other
 
-mark_told : (m : Mark) (token : Token) (u : Unit {0}) → means_mark m token ≡ Some u → token ≡ Symbol m
+pub mark_told : (m : Mark) (token : Token) (u : Unit {0}) → means_mark m token ≡ Some u → token ≡ Symbol m
 mark_told m (Word w) u h = absurd (none-some u h)
 mark_told m (Number n) u h = absurd (none-some u h)
 mark_told m (Text t) u h = absurd (none-some u h)
@@ -133,7 +133,7 @@ mark_kept m token u is = rw is (rw (eq-eqb (mark_kind m) (mark_kind m) refl) ref
 pub right_mark : {j J : ℕ} (m : Mark) → Right j J (mark m) (mark m) (read_mark m) (read_mark m) (one_of (mark_kind m ∷ []))
 right_mark m = right_one (λ token u. token ≡ Symbol m) (means_mark m) (mark_kind m ∷ []) (mark_told m) (mark_known m) (mark_kept m)
 
-the_word_told : (w : List ℕ) (token : Token) (u : Unit {0}) → means_the_word w token ≡ Some u → token ≡ Word w
+pub the_word_told : (w : List ℕ) (token : Token) (u : Unit {0}) → means_the_word w token ≡ Some u → token ≡ Word w
 the_word_told w (Symbol m) u h = absurd (none-some u h)
 the_word_told w (Number n) u h = absurd (none-some u h)
 the_word_told w (Text t) u h = absurd (none-some u h)
@@ -153,7 +153,7 @@ the_word_kept w token u is = rw is (rw (eq-eqb (word_kind w) (word_kind w) refl)
 pub right_the_word : {j J : ℕ} (w : List ℕ) → Right j J (the_word w) (the_word w) (read_the_word w) (read_the_word w) (one_of (word_kind w ∷ []))
 right_the_word w = right_one (λ token u. token ≡ Word w) (means_the_word w) (word_kind w ∷ []) (the_word_told w) (the_word_known w) (the_word_kept w)
 
-word_told : (token : Token) (a : List ℕ) → means_word token ≡ Some a → token ≡ Word a
+pub word_told : (token : Token) (a : List ℕ) → means_word token ≡ Some a → token ≡ Word a
 word_told (Word w) a h = ap Word (same_Some w a h)
 word_told (Symbol m) a h = absurd (none-some a h)
 word_told (Number n) a h = absurd (none-some a h)
@@ -172,7 +172,7 @@ right_word =
     right_one (λ token a. token ≡ Word a) means_word any_word_kinds word_told (λ token a is. rw is refl)
     (λ token a is. rw is (word_among a (is_reserved a) refl))
 
-number_told : (token : Token) (a : ℤ) → means_number token ≡ Some a → token ≡ Number a
+pub number_told : (token : Token) (a : ℤ) → means_number token ≡ Some a → token ≡ Number a
 number_told (Word w) a h = absurd (none-some a h)
 number_told (Symbol m) a h = absurd (none-some a h)
 number_told (Number n) a h = ap Number (same_Some n a h)
@@ -183,7 +183,7 @@ pub right_number : {j J : ℕ} → Right j J number number read_number read_numb
 right_number =
     right_one (λ token a. token ≡ Number a) means_number (number_kind ∷ []) number_told (λ token a is. rw is refl) (λ token a is. rw is refl)
 
-text_told : (token : Token) (a : List ℕ) → means_text token ≡ Some a → token ≡ Text a
+pub text_told : (token : Token) (a : List ℕ) → means_text token ≡ Some a → token ≡ Text a
 text_told (Word w) a h = absurd (none-some a h)
 text_told (Symbol m) a h = absurd (none-some a h)
 text_told (Number n) a h = absurd (none-some a h)
@@ -194,7 +194,7 @@ pub right_text : {j J : ℕ} → Right j J text text read_text read_text (one_of
 right_text =
     right_one (λ token a. token ≡ Text a) means_text (text_kind ∷ []) text_told (λ token a is. rw is refl) (λ token a is. rw is refl)
 
-name_told : (token : Token) (a : List ℕ) → means_name token ≡ Some a → (token ≡ Word a) × IsName a
+pub name_told : (token : Token) (a : List ℕ) → means_name token ≡ Some a → (token ≡ Word a) × IsName a
 unfolding IsName
 name_told (Symbol m) a h = absurd (none-some a h)
 name_told (Number n) a h = absurd (none-some a h)

@@ -29,7 +29,7 @@ abbrev pub Listed : {A : Type 0} → Lang A → Lang (List A)
 Listed S = (S ⋅ Later S) ⇒ λ n v. v.0 ∷ v.1
 
 -- the same as `Later`, a statement after another
-abbrev Turn : {A : Type 0} → Lang A → Lang (List A)
+abbrev pub Turn : {A : Type 0} → Lang A → Lang (List A)
 Turn S = ended (mark mark.Semicolon ▸ ended (Listed S))
 
 later_none : {A : Type 0} (S : Lang A) (start : Point) → Later S start [] [] start
@@ -91,7 +91,7 @@ turn_first S start end ts (Some vs) l =
     spelled_as (Later S) start end end (parts.early ++ parts.late) ts (listed behind.value) vs parts.whole (l.made ∙ behind.made) refl
     (turn_more S start parts.between end parts.early parts.late l.value.0 behind.value parts.before behind.spelled)
 
-later_of_turn : {A : Type 0} (S : Lang A) (start end : Point) (ts : List Token) (vs : List A) → Turn S start ts vs end → Later S start ts vs end
+pub later_of_turn : {A : Type 0} (S : Lang A) (start end : Point) (ts : List Token) (vs : List A) → Turn S start ts vs end → Later S start ts vs end
 later_of_turn S start end ts vs turn =
     spelled_as (Later S) start end end ts ts (listed turn.value) vs refl turn.made refl (turn_first S start end ts turn.value turn.spelled)
 

@@ -1,5 +1,5 @@
 -- Whole regular path expressions.
-use Rattle.std.proofs.Common.{◌≡◌, refl, sym, ap, ◌∙◌, ℕ, zero, suc, ◌+◌, ◌<◌, ◌≤◌, List, [], ◌∷◌, length, take, drop}
+use Rattle.std.proofs.Common.{◌≡◌, refl, sym, ap, ◌∙◌, ℕ, zero, suc, ◌+◌, ◌<◌, ◌≤◌, List, [], ◌∷◌, length, drop}
 use Rattle.std.proofs.Math.ListN.{drop_of_length-le}
 use Rattle.gc_lex.specs.declared.token.Token.{Token}
 use Rattle.gc_regx.specs.Trees.{RegexTree, ARegex}
@@ -9,6 +9,8 @@ use Rattle.gc_grammar.specs.Regexes.{Expression, regex_within}
 use Rattle.gc_grammar.specs.Queries.{SpellsRegex, start}
 use Rattle.gc_parse_readers.specs.RegexReaders.{read_regex}
 use Rattle.gc_parse_readers.specs.Points.{bare}
+use Rattle.gc_parse_readers.specs.Refusals.{IsRefusedAt}
+use Rattle.gc_parse_readers.proofs.FileViable.{regex_begins, regex_before}
 use Rattle.gc_parse_readers.proofs.RegexRight.{regex_outline, right_regex}
 use Rattle.gc_parse_readers.proofs.Whole.{whole_complete, whole_sound, whole_left, whole_stuck, stuck_within}
 use native.Mathlib.Omega.{arith}
@@ -34,9 +36,10 @@ not_empty (t ∷ ts) (suc end) h none = not_empty ts end (omega (arith, h)) none
 
 -- tokens that are left over are refused with the first of them
 pub regex_left : (ts : List Token) (room end : ℕ) (e : Expression) → room ≡ length ts + 1 → end < length ts → read_regex room start ts ≡ Got e (bare end) (drop end ts)
-    → (end ≤ length ts) × ((us : List Token) (t : RegexTree ARegex) → take (end + 1) us ≡ take (end + 1) ts → SpellsRegex us t → ⊥)
+    → IsRefusedAt SpellsRegex ts end
 regex_left ts room end e room_is under got = (
   omega (arith, under),
+  regex_before room end ts (drop end ts) e (omega (arith, room_is)) got,
   λ us t same spelled.
       whole_left regex_within read_regex regex_outline right_regex ts room e (bare end) (drop end ts) (omega (arith, room_is)) got (not_empty ts end under)
       us spelled.1 spelled.0 same spelled.2,
@@ -44,9 +47,10 @@ regex_left ts room end e room_is under got = (
 
 -- what is not read is refused where it is stuck
 pub regex_stuck : (ts : List Token) (room k : ℕ) → room ≡ length ts + 1 → read_regex room start ts ≡ Stuck k
-    → (k ≤ length ts) × ((us : List Token) (t : RegexTree ARegex) → take (k + 1) us ≡ take (k + 1) ts → SpellsRegex us t → ⊥)
+    → IsRefusedAt SpellsRegex ts k
 regex_stuck ts room k room_is stuck = (
   stuck_within regex_within read_regex regex_outline right_regex ts room k (omega (arith, room_is)) stuck,
+  regex_begins room k ts (omega (arith, room_is)) stuck,
   λ us t same spelled. whole_stuck regex_within read_regex regex_outline right_regex ts room k (omega (arith, room_is)) stuck us spelled.1 spelled.0 same spelled.2,
 )
 

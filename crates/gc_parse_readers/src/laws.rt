@@ -19,7 +19,7 @@ pub fn a_list_spells_one_file()
 {}
 
 /// The reader of whole files, with more room than there are tokens, gives the statements that a list
-/// spells, and is stuck where it spells none, at a token up to which no list is the beginning of a file.
+/// spells, and is stuck where it spells none, at the first token with which no file begins so.
 pub fn the_reader_of_files_is_right()
     ensures sound { (room : ℕ) (ts rest : List Token) (statements : List (Tree AStatement)) (end : Point) → length ts < room → file_reading room ts ≡ Got statements end rest → SpellsFile ts statements }
     ensures complete { (room : ℕ) (ts : List Token) (statements : List (Tree AStatement)) → length ts < room → (spelled : SpellsFile ts statements) → file_reading room ts ≡ Got statements spelled.0 [] }
