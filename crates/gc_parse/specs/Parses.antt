@@ -13,7 +13,7 @@ use Rattle.gc_parse.specs.Depths.{IsDepthFault, depth_fault_in}
 
 -- a result is the parse of a list, by what lists spell and what a result's tree is: brackets that are
 -- too deep are refused before all else; then a tree is given where the list spells one, and it is the
--- only one; or the place is given of a token with which no list begins so and spells a tree
+-- only one; or the place is given of the first token with which no list begins so that spells a tree
 abbrev pub IsParse : {T A : Type 0} → (List Token → A → Type 0) → (T → A) → List Token → Result T ParseRefusal → Type 0
 IsParse {A = A} Spells view ts (Ok t) =
     IsDepthFault ts None × Spells ts (view t) × ((a : A) → Spells ts a → a ≡ view t)
