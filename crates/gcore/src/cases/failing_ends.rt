@@ -27,6 +27,7 @@ const FIRST_READ_FAILS: End = End {
     failing: Failing {
         folder_fails: &[0],
         out_fails: &[],
+        err_fails: &[],
         out_most: 1000,
     },
     status: 6,
@@ -41,6 +42,7 @@ const FIRST_WRITE_FAILS: End = End {
     failing: Failing {
         folder_fails: &[],
         out_fails: &[0],
+        err_fails: &[],
         out_most: 1000,
     },
     status: 7,
@@ -55,6 +57,7 @@ const THIRD_WRITE_FAILS: End = End {
     failing: Failing {
         folder_fails: &[],
         out_fails: &[2],
+        err_fails: &[],
         out_most: 10,
     },
     status: 7,
@@ -69,6 +72,7 @@ const ONE_BYTE_AT_A_TIME: End = End {
     failing: Failing {
         folder_fails: &[],
         out_fails: &[],
+        err_fails: &[],
         out_most: 1,
     },
     status: 0,
@@ -83,6 +87,7 @@ const FRIENDS_ONE_BYTE_AT_A_TIME: End = End {
     failing: Failing {
         folder_fails: &[],
         out_fails: &[],
+        err_fails: &[],
         out_most: 1,
     },
     status: 0,

@@ -117,10 +117,20 @@ fn named(name: &str) -> Result<&'static str, Fail> {
     }
 }
 
+// How often a text stands in a block, by which texts of many millions of bytes are put together.
+const BLOCK: u32 = 1_000;
+
 fn push_times(whole: &mut Vec<u8>, count: &str, text: &str) -> Result<(), Fail> {
     let count = count.parse::<u32>().ok().ok_or("a number of times")?;
+    let mut block = Vec::new(*whole.allocator());
+    push_copies(&mut block, BLOCK, text.as_bytes())?;
+    push_copies(whole, count / BLOCK, &block)?;
+    push_copies(whole, count % BLOCK, text.as_bytes())
+}
+
+fn push_copies(whole: &mut Vec<u8>, count: u32, text: &[u8]) -> Result<(), Fail> {
     for _ in 0..count {
-        whole.extend_from_slice(text.as_bytes())?;
+        whole.extend_from_slice(text)?;
     }
     Ok(())
 }

@@ -14,7 +14,9 @@ $ run q g=a
 a: «labels»
 q: «1048576× »
 = 3 gcore: P2 Syntax 1:1048577
+"##;
 
+const GRAPH_FILES: &str = r##"
 graph-file-one-byte-past-the-limit-refused
 $ run q g=a
 a: «33554433× »
@@ -37,5 +39,11 @@ q: CONSTRUCT (v) MATCH (v:Person)
 #[test]
 fn sizes_come_to_what_is_due(rt: HostRuntime) -> Result<(), Fail> {
     assert_eq!(rt; first_failing(rt.alloc(), CASES)?, None);
+    Ok(())
+}
+
+#[test]
+fn graph_files_of_the_greatest_size_come_to_what_is_due(rt: HostRuntime) -> Result<(), Fail> {
+    assert_eq!(rt; first_failing(rt.alloc(), GRAPH_FILES)?, None);
     Ok(())
 }
