@@ -1,18 +1,20 @@
 -- What is settled, in the order in which it was, and what is pending.
-use Rattle.std.proofs.Common.{◌≡◌, ℕ, ◌+◌, ◌<◌, ◌≤◌, ◌==◌, ◌&&◌, Bool, true, false, cond, List, [], ◌∷◌, ◌++◌, map, length, refl, sym, ap, ap₂, subst, ◌∙◌, arith, inl, inr, ◌⊎◌}
+use Rattle.std.proofs.Common.{◌≡◌, ℕ, ◌+◌, ◌≤◌, ◌==◌, ◌&&◌, nat_lt, Bool, true, false, cond, List, [], ◌∷◌, ◌++◌, map, length, refl, sym, ap, ap₂, subst, ◌∙◌, arith, inl, inr, ◌⊎◌}
 use Rattle.std.proofs.lemmas.Bool.{eq-eqb}
 use Rattle.std.proofs.lemmas.Bool.Decides.{nat_tests}
-use Rattle.std.proofs.lemmas.List.{append-nil, map-append}
+use Rattle.std.specs.List.{filter}
+use Rattle.std.proofs.lemmas.List.{append-nil, length-map, map-append}
 use Rattle.std.proofs.lemmas.List.Elements.{filter-append}
 use Rattle.gc_base.specs.declared.walk.Step.{Step}
 use Rattle.gc_prod.specs.declared.moves.Move.{Move}
 use Rattle.gc_prod.specs.declared.moves.Pair.{Pair}
-use Rattle.gc_prod.specs.Leading.{pair, steps_of}
+use Rattle.gc_prod.specs.Leading.{pair, target_of, steps_of}
 use Rattle.gc_prod.specs.Products.{Setting, moves}
-use Rattle.gc_search.specs.Arrivals.{FoundWalk, edges_along, entry_of, same_pair, arrivals_at, settled_at, passage, passages, stays_at, extended, extensions, TakesLeast, IsSeen}
+use Rattle.gc_search.specs.Arrivals.{FoundWalk, edges_along, entry_of, same_pair, arrivals_at, settled_at, passage, passages, stays_at, extended, extensions, open_moves, TakesLeast, IsSeen, IsNew}
 use Rattle.gc_search.specs.Entries.{Entry, entry, AtMost, extend, IsMoveCost}
 use Rattle.gc_search.specs.Passages.{Has, Passage, Reach, IsFirstK}
-use Rattle.gc_search.proofs.Settle.{Has_front, Inv, inv_start, inv_end, inv_same, seen_covered, full_covered, inv_drop, inv_settle}
+use Rattle.gc_search.proofs.Order.{at_most_trans, at_most_extend}
+use Rattle.gc_search.proofs.Settle.{Has_front, Inv, IsDue, inv_start, inv_end, inv_same, seen_covered, full_covered, inv_drop, inv_settle}
 
 eqb_same : (a b : ℕ) → (a == b) ≡ true → a ≡ b
 eqb_same a b h = grind (arith, nat_tests)
@@ -69,6 +71,32 @@ Has_from_map f [] y h = elim h [ ]
 Has_from_map f (x ∷ xs) y (inl e) = (x, inl refl, e)
 Has_from_map f (x ∷ xs) y (inr h) = let a = Has_from_map f xs y h in (a.0, inr a.1, a.2)
 
+-- a test picks an item out, or fails
+pub filter_or : {X : Type 0} (test : X → Bool) (xs : List X) (x : X) → Has xs x → (test x ≡ false) ⊎ Has (filter test xs) x
+filter_or test [] x h = elim h [ ]
+filter_or test (y ∷ xs) x (inl e) = subst (λ z. (test z ≡ false) ⊎ Has (filter test (y ∷ xs)) z) e (by (test y) refl)
+  where
+    by : (b : Bool) → test y ≡ b → (test y ≡ false) ⊎ Has (filter test (y ∷ xs)) y
+    by true d = inr (subst (λ c. Has (cond c (y ∷ filter test xs) (filter test xs)) y) (sym d) (inl refl))
+    by false d = inl d
+filter_or test (y ∷ xs) x (inr h) = elim (filter_or test xs x h) [ inl fails ↦ inl fails | inr g ↦ inr (by (test y) g) ]
+  where
+    by : (b : Bool) → Has (filter test xs) x → Has (cond b (y ∷ filter test xs) (filter test xs)) x
+    by true g = inr g
+    by false g = g
+
+pub Has_filtered : {X : Type 0} (test : X → Bool) (xs : List X) (x : X) → Has (filter test xs) x → Has xs x
+Has_filtered test [] x h = elim h [ ]
+Has_filtered test (y ∷ xs) x h = by (λ g. Has_filtered test xs x g) (test y) h
+  where
+    by : (Has (filter test xs) x → Has xs x) → (b : Bool) → Has (cond b (y ∷ filter test xs) (filter test xs)) x → Has (y ∷ xs) x
+    by next true (inl e) = inl e
+    by next true (inr g) = inr (next g)
+    by next false g = inr (next g)
+
+not_less : (a b : ℕ) → nat_lt a b ≡ false → b ≤ a
+not_less a b h = grind (arith, nat_tests)
+
 -- an extension is seen by the extension of its entry
 pub entry_extended : (setting : Setting) (c : FoundWalk) (m : Move) → entry_of (extended setting c m) ≡ extend (entry_of c) m.cost (edges_along (steps_of setting m))
 entry_extended setting c m = ap (λ (w : List ℕ). entry (c.cost + m.cost) w) (map-append (λ (s : Step). s.edge) c.steps (steps_of setting m))
@@ -113,50 +141,63 @@ module _ (setting : Setting) (source : ℕ) (k : ℕ) where
         inv_drop Pair (passages setting) (pair source 0) k (settled_at settled) (IsPending cs) (IsPending rest) s c.at (entry_of c)
         (seen_covered Pair (passages setting) (pair source 0) k (settled_at settled) (IsPending cs) s c.at (entry_of c) taken seen.0 seen.1 seen.2) fewer kept
 
-    pub state_full : (IsSeen settled c → ⊥) → k ≤ length (settled_at settled c.at) → State settled rest
-    state_full new full =
+    pub state_full : k ≤ length (settled_at settled c.at) → State settled rest
+    state_full full =
         inv_drop Pair (passages setting) (pair source 0) k (settled_at settled) (IsPending cs) (IsPending rest) s c.at (entry_of c)
-        (full_covered Pair (passages setting) (pair source 0) k (settled_at settled) (IsPending cs) s c.at (entry_of c) taken (λ x h e. new (x, h, e)) full) fewer kept
+        (full_covered Pair (passages setting) (pair source 0) k (settled_at settled c.at) (entry_of c) (λ x h. s.ordered c.at c.at x (entry_of c) h taken) full) fewer kept
 
-    onward : (m : Passage Pair) → Has (passages setting c.at) m → IsPending (rest ++ extensions setting c (moves setting c.at.node c.at.state)) m.to (extend (entry_of c) m.cost m.edges)
-    onward m h =
-        let ms = moves setting c.at.node c.at.state in
-        let from = Has_from_map (passage setting) ms m h in
-        let x = extended setting c from.0 in (
-          x,
-          Has_later rest (extensions setting c ms) x (Has_map (extended setting c) ms from.0 from.1),
-          ap (λ (v : Passage Pair). v.to) from.2,
-          entry_extended setting c from.0 ∙ ap (λ (v : Passage Pair). extend (entry_of c) v.cost v.edges) from.2,
-        )
+    abbrev all_moves : List Move
+    all_moves = moves setting c.at.node c.at.state
 
-    came : (p : Pair) (x : Entry) → IsPending (rest ++ extensions setting c (moves setting c.at.node c.at.state)) p x
-        → IsPending cs p x ⊎ ((m : Passage Pair) × Has (passages setting c.at) m × (m.to ≡ p) × (extend (entry_of c) m.cost m.edges ≡ x))
-    came p x h =
-        let ms = moves setting c.at.node c.at.state in
-        elim (Has_cases rest (extensions setting c ms) h.0 h.1) [
-          | inl g ↦ inl (fewer p x (h.0, g, h.2, h.3))
-          | inr g ↦
-              let from = Has_from_map (extended setting c) ms h.0 g in
-              inr (
-                passage setting from.0,
-                Has_map (passage setting) ms from.0 from.1,
-                ap (λ (v : FoundWalk). v.at) from.2 ∙ h.2,
-                sym (entry_extended setting c from.0) ∙ (ap entry_of from.2 ∙ h.3),
-              )
-        ]
+    abbrev fresh : List FoundWalk
+    fresh = extensions setting c (open_moves settled k all_moves)
 
-    pub state_settle : ((p : Pair) (m : Passage Pair) → Has (passages setting p) m → IsMoveCost m.cost m.edges)
-        → (IsSeen settled c → ⊥) → length (settled_at settled c.at) < k → State (settled ++ c ∷ []) (rest ++ extensions setting c (moves setting c.at.node c.at.state))
-    state_settle costs new room =
-        let ms = moves setting c.at.node c.at.state in
-        inv_settle Pair (passages setting) (pair source 0) k costs (settled_at settled) (settled_at (settled ++ c ∷ [])) (IsPending cs) (IsPending (rest ++ extensions setting c ms)) c.at (entry_of c) s (record {
-          taken = taken;
-          least = λ p x h. subst (λ (e : Entry). AtMost (entry_of c) e) h.3 (t.least h.0 h.1);
-          new = λ x h e. new (x, h, e);
-          room = room;
-          pushed = settled_here settled c;
-          others = settled_elsewhere settled c;
-          kept = λ p x h. elim (kept p x h) [ inl g ↦ inl (g.0, Has_front rest (extensions setting c ms) g.0 g.1, g.2, g.3) | inr d ↦ inr d ];
-          from = came;
-          onward = onward;
-        })
+    module _ (costs : (p : Pair) (m : Passage Pair) → Has (passages setting p) m → IsMoveCost m.cost m.edges) where
+      -- an extension is pending, or its pair has k walks that come before it
+      onward_by : (m : Move) → Has all_moves m → IsDue Pair (passages setting) (pair source 0) k (settled_at settled) (IsPending (rest ++ fresh)) (target_of m) (extend (entry_of c) m.cost (edges_along (steps_of setting m)))
+      onward_by m h =
+          let x = passage setting m in
+          let q = target_of m in
+          let e = extend (entry_of c) x.cost x.edges in
+          let a = extended setting c m in
+          elim (filter_or (λ n. nat_lt (length (arrivals_at settled (target_of n))) k) all_moves m h) [
+            | inr g ↦ inr (a, Has_later rest fresh a (Has_map (extended setting c) (open_moves settled k all_moves) m g), refl, entry_extended setting c m)
+            | inl full ↦
+                let many : k ≤ length (arrivals_at settled q) = not_less (length (arrivals_at settled q)) k full in
+                let further : AtMost (entry_of c) e = at_most_extend (entry_of c) x.cost x.edges (costs c.at x (Has_map (passage setting) all_moves m h)) in
+                inl (full_covered Pair (passages setting) (pair source 0) k (settled_at settled q) e
+                (λ y g. at_most_trans y (entry_of c) e (s.ordered q c.at y (entry_of c) g taken) further)
+                (omega (arith, many, length-map (arrivals_at settled q) entry_of)))
+          ]
+
+      onward : (m : Passage Pair) → Has (passages setting c.at) m → IsDue Pair (passages setting) (pair source 0) k (settled_at settled) (IsPending (rest ++ fresh)) m.to (extend (entry_of c) m.cost m.edges)
+      onward m h =
+          let from = Has_from_map (passage setting) all_moves m h in
+          subst (λ (v : Passage Pair). IsDue Pair (passages setting) (pair source 0) k (settled_at settled) (IsPending (rest ++ fresh)) v.to (extend (entry_of c) v.cost v.edges)) from.2 (onward_by from.0 from.1)
+
+      came : (p : Pair) (x : Entry) → IsPending (rest ++ fresh) p x → IsPending cs p x ⊎ ((m : Passage Pair) × Has (passages setting c.at) m × (m.to ≡ p) × (extend (entry_of c) m.cost m.edges ≡ x))
+      came p x h = elim (Has_cases rest fresh h.0 h.1) [
+        | inl g ↦ inl (fewer p x (h.0, g, h.2, h.3))
+        | inr g ↦
+            let from = Has_from_map (extended setting c) (open_moves settled k all_moves) h.0 g in
+            inr (
+              passage setting from.0,
+              Has_map (passage setting) all_moves from.0 (Has_filtered (λ n. nat_lt (length (arrivals_at settled (target_of n))) k) all_moves from.0 from.1),
+              ap (λ (v : FoundWalk). v.at) from.2 ∙ h.2,
+              sym (entry_extended setting c from.0) ∙ (ap entry_of from.2 ∙ h.3),
+            )
+      ]
+
+      pub state_settle : IsNew settled k c → State (settled ++ c ∷ []) (rest ++ fresh)
+      state_settle new =
+          inv_settle Pair (passages setting) (pair source 0) k costs (settled_at settled) (settled_at (settled ++ c ∷ [])) (IsPending cs) (IsPending (rest ++ fresh)) c.at (entry_of c) s (record {
+            taken = taken;
+            least = λ p x h. subst (λ (e : Entry). AtMost (entry_of c) e) h.3 (t.least h.0 h.1);
+            new = λ x h e. new.1 (x, h, e);
+            room = new.0;
+            pushed = settled_here settled c;
+            others = settled_elsewhere settled c;
+            kept = λ p x h. elim (kept p x h) [ inl g ↦ inl (g.0, Has_front rest fresh g.0 g.1, g.2, g.3) | inr d ↦ inr d ];
+            from = came;
+            onward = onward;
+          })

@@ -1,6 +1,6 @@
 -- The settling loop: settled lists at each pair, and what is pending; the invariant, its three steps and its end.
 use Rattle.std.proofs.Common.{◌≡◌, ℕ, ◌<◌, ◌≤◌, List, [], ◌∷◌, ◌++◌, length, refl, sym, ap, ◌∙◌, subst, arith, inl, inr, ◌⊎◌, length-append}
-use Rattle.gc_search.specs.Entries.{Entry, entry, Before, AtMost, extend, IsMoveCost}
+use Rattle.gc_search.specs.Entries.{Entry, entry, Before, AtMost, Strictly, Same, extend, IsMoveCost}
 use Rattle.gc_search.specs.Passages.{Has, Passage, Goes, Reach, IsFirstK, Rises, Covered, Listed, Past}
 use Rattle.gc_search.proofs.First.{Distinct, first_k}
 use Rattle.gc_search.proofs.Order.{at_most_trans, at_most_same_walk, at_most_apart, at_most_extend}
@@ -89,10 +89,24 @@ module _ (P : Type 0) (passages : P → List (Passage P)) (source : P) (k : ℕ)
       → (x : Entry) → Has (at q) x → x.edges ≡ e.edges → Covered k (at q) e
   seen_covered at pending inv q e h x g s = Listed x g s (at_most_same_walk x e (inv.ordered q q x e g h) s)
 
-  -- a pending entry at a pair that has k others
-  pub full_covered : (at : P → List Entry) (pending : P → Entry → Type 0) → Inv at pending → (q : P) (e : Entry) → pending q e
-      → ((x : Entry) → Has (at q) x → x.edges ≡ e.edges → ⊥) → k ≤ length (at q) → Covered k (at q) e
-  full_covered at pending inv q e h new n = Past n (λ x g. at_most_apart x e (inv.ordered q q x e g h) (new x g))
+  -- what comes behind k others, or is one of them
+  full_or : (xs : List Entry) (e : Entry) → ((x : Entry) → Has xs x → AtMost x e) → ((x : Entry) → Has xs x → Before x e) ⊎ ((x : Entry) × Has xs x × (x ≡ e))
+  full_or [] e all = inl (λ x h. elim h [ ])
+  full_or (y ∷ xs) e all = elim (all y (inl refl)) [
+    | Same same ↦ inr (y, inl refl, same)
+    | Strictly before ↦ elim (full_or xs e (λ x h. all x (inr h))) [
+      | inl rest ↦ inl (λ x h. elim h [ inl d ↦ subst (λ v. Before v e) d before | inr g ↦ rest x g ])
+      | inr one ↦ inr (one.0, inr one.1, one.2)
+    ]
+  ]
+
+  pub full_covered : (xs : List Entry) (e : Entry) → ((x : Entry) → Has xs x → AtMost x e) → k ≤ length xs → Covered k xs e
+  full_covered xs e all full = elim (full_or xs e all) [
+    | inl before ↦ Past full before
+    | inr one ↦
+        let cost : (one.0).cost ≡ e.cost = ap (λ (v : Entry). v.cost) one.2 in
+        Listed one.0 one.1 (ap (λ (v : Entry). v.edges) one.2) (omega (arith, cost))
+  ]
 
   -- the same is pending
   pub inv_same : (at : P → List Entry) (pending pending' : P → Entry → Type 0) → Inv at pending → ((p : P) (x : Entry) → pending p x → pending' p x)
@@ -134,7 +148,7 @@ module _ (P : Type 0) (passages : P → List (Passage P)) (source : P) (k : ℕ)
         closed = λ p x h m g. due m.to (extend x m.cost m.edges) (inv.closed p x h m g);
       }
 
-  -- a least pending entry is settled at its pair, and the extensions by the pair's passages are pending
+  -- a least pending entry is settled at its pair, and the extensions by the pair's passages are pending or covered
   pub record Settles (at at' : P → List Entry) (pending pending' : P → Entry → Type 0) (q : P) (e : Entry) : Type 0 where
     pub taken : pending q e
     pub least : (p : P) (x : Entry) → pending p x → AtMost e x
@@ -144,7 +158,7 @@ module _ (P : Type 0) (passages : P → List (Passage P)) (source : P) (k : ℕ)
     pub others : (p : P) → (at' p ≡ at p) ⊎ (q ≡ p)
     pub kept : (p : P) (x : Entry) → pending p x → pending' p x ⊎ ((q ≡ p) × (e ≡ x))
     pub from : (p : P) (x : Entry) → pending' p x → pending p x ⊎ ((m : Passage P) × Has (passages q) m × (m.to ≡ p) × (extend e m.cost m.edges ≡ x))
-    pub onward : (m : Passage P) → Has (passages q) m → pending' m.to (extend e m.cost m.edges)
+    pub onward : (m : Passage P) → Has (passages q) m → IsDue at pending' m.to (extend e m.cost m.edges)
 
   pub inv_settle : ((p : P) (m : Passage P) → Has (passages p) m → IsMoveCost m.cost m.edges)
       → (at at' : P → List Entry) (pending pending' : P → Entry → Type 0) (q : P) (e : Entry)
@@ -219,6 +233,9 @@ module _ (P : Type 0) (passages : P → List (Passage P)) (source : P) (k : ℕ)
         begun = due source (entry 0 []) inv.begun;
         closed = λ p x h m g. elim (was p x h) [
           | inl i ↦ due m.to (extend x m.cost m.edges) (inv.closed p x i m g)
-          | inr t ↦ inr (subst (λ v. pending' m.to (extend v m.cost m.edges)) t.1 (s.onward m (subst (λ v. Has (passages v) m) (sym t.0) g)))
+          | inr t ↦ subst (λ v. IsDue at' pending' m.to (extend v m.cost m.edges)) t.1 (elim (s.onward m (subst (λ v. Has (passages v) m) (sym t.0) g)) [
+            | inl c ↦ inl (covered m.to (extend e m.cost m.edges) c)
+            | inr h ↦ inr h
+          ])
         ];
       }

@@ -1,5 +1,5 @@
 -- Walks from the source that are found, each with the run by which it is.
-use Rattle.std.specs.Prelude.{length, suc, ◌≡◌, ◌⊎◌, ℕ, ◌+◌, Bool, true, false, ◌&&◌, ◌==◌, List, [], ◌∷◌, ◌++◌, map}
+use Rattle.std.specs.Prelude.{length, suc, ◌≡◌, ◌⊎◌, ℕ, ◌+◌, ◌<◌, ◌≤◌, nat_lt, Bool, true, false, ◌&&◌, ◌==◌, List, [], ◌∷◌, ◌++◌, map}
 use Rattle.std.specs.List.{filter}
 use Rattle.gc_base.specs.declared.walk.Step.{Step}
 use Rattle.gc_prod.specs.declared.moves.Move.{Move}
@@ -57,14 +57,14 @@ extended setting a m = record {
 abbrev pub extensions : Setting → FoundWalk → List Move → List FoundWalk
 extensions setting a ms = map (extended setting a) ms
 
+-- those of some moves that lead to pairs at which fewer than k walks are settled
+abbrev pub open_moves : List FoundWalk → ℕ → List Move → List Move
+open_moves settled k ms = filter (λ m. nat_lt (length (arrivals_at settled (target_of m))) k) ms
+
 -- a test tells the first, or the second
 abbrev pub Told : Bool → Type 0 → Type 0 → Type 0
 Told true A B = A
 Told false A B = B
-
--- two arrive at one pair along the same edges
-abbrev pub AreSame : FoundWalk → FoundWalk → Type 0
-AreSame a b = (a.at ≡ b.at) × (edges_along a.steps ≡ edges_along b.steps)
 
 -- a least one is taken out
 pub record TakesLeast (before : List FoundWalk) (taken : FoundWalk) (after : List FoundWalk) : Type 0 where
@@ -77,3 +77,10 @@ pub record TakesLeast (before : List FoundWalk) (taken : FoundWalk) (after : Lis
 -- its edges are those of a walk that is settled at its pair
 abbrev pub IsSeen : List FoundWalk → FoundWalk → Type 0
 IsSeen settled a = (x : Entry) × Has (settled_at settled a.at) x × (x.edges ≡ edges_along a.steps)
+
+-- there are fewer than k at its pair, and none with its edges; or else there are k, or one with its edges
+abbrev pub IsNew : List FoundWalk → ℕ → FoundWalk → Type 0
+IsNew settled k a = (length (settled_at settled a.at) < k) × (IsSeen settled a → ⊥)
+
+abbrev pub IsOld : List FoundWalk → ℕ → FoundWalk → Type 0
+IsOld settled k a = (k ≤ length (settled_at settled a.at)) ⊎ IsSeen settled a

@@ -15,7 +15,7 @@ use crate::found::Found;
 use crate::settling::settle;
 use gc_automata::runs_pass_the_conforming_walks;
 use gc_base::{Id, Memory, Steps};
-use gc_prod::{ByKey, Product};
+use gc_prod::Product;
 use std::alloc::Global;
 use std::sync::ledger::Ledger;
 
@@ -45,8 +45,7 @@ pub fn search<L: Ledger>(
     runs_pass_the_conforming_walks();
     let _nodes = p.nodes();
     let last = p.states().saturating_sub(1);
-    let settled = settle(alloc, p, source, k, steps)?;
-    let walks = ByKey::of(settled)?;
+    let walks = settle(alloc, p, source, k, steps)?;
     Ok(Found {
         source,
         last,
