@@ -1,9 +1,9 @@
 -- The settling loop: settled lists at each pair, and what is pending; the invariant, its three steps and its end.
 use Rattle.std.proofs.Common.{◌≡◌, ℕ, ◌<◌, ◌≤◌, List, [], ◌∷◌, ◌++◌, length, refl, sym, ap, ◌∙◌, subst, arith, inl, inr, ◌⊎◌, length-append}
-use Rattle.gc_search.specs.Entries.{Entry, entry, Before, AtMost, Strictly, Same, extend, IsMoveCost}
-use Rattle.gc_search.specs.Passages.{Has, Passage, Goes, Reach, IsFirstK, Rises, Covered, Listed, Past}
+use Rattle.gc_search.specs.Entries.{Entry, entry, Before, AtMost, AtMostAt, Strictly, Same, extend}
+use Rattle.gc_search.specs.Passages.{Has, Passage, IsOnward, Goes, Reach, IsFirstK, Rises, Covered, Listed, Past}
 use Rattle.gc_search.proofs.First.{Distinct, first_k}
-use Rattle.gc_search.proofs.Order.{at_most_trans, at_most_same_walk, at_most_apart, at_most_extend}
+use Rattle.gc_search.proofs.Order.{at_most_same_walk, at_most_apart, at_most_here, at_most_at_trans, at_most_at_extend}
 
 pub Has_front : {X : Type 0} (xs ys : List X) (x : X) → Has xs x → Has (xs ++ ys) x
 Has_front [] ys x h = elim h [ ]
@@ -42,7 +42,8 @@ goes_push passages [] p q e f m g h = (
 )
 goes_push passages (n ∷ run) p q e f m g h = (g.0, goes_push passages run n.to q (extend e n.cost n.edges) f m g.1 h)
 
-module _ (P : Type 0) (passages : P → List (Passage P)) (source : P) (k : ℕ) where
+-- places have numbers, which order what is alike
+module _ (P : Type 0) (passages : P → List (Passage P)) (source : P) (k : ℕ) (number : P → ℕ) where
   abbrev pub Table : Type 0
   Table = P → List Entry
 
@@ -59,7 +60,7 @@ module _ (P : Type 0) (passages : P → List (Passage P)) (source : P) (k : ℕ)
     pub few : (p : P) → length (at p) ≤ k
     pub ascends : (p : P) → Rises (at p)
     pub distinct : (p : P) → Distinct (at p)
-    pub ordered : (p q : P) (x e : Entry) → Has (at p) x → pending q e → AtMost x e
+    pub ordered : (p q : P) (x e : Entry) → Has (at p) x → pending q e → AtMostAt (number p) x (number q) e
     pub begun : IsDue at pending source (entry 0 [])
     pub closed : (p : P) (x : Entry) → Has (at p) x → (m : Passage P) → Has (passages p) m → IsDue at pending m.to (extend x m.cost m.edges)
 
@@ -87,7 +88,7 @@ module _ (P : Type 0) (passages : P → List (Passage P)) (source : P) (k : ℕ)
   -- a pending entry whose walk is settled there
   pub seen_covered : (at : P → List Entry) (pending : P → Entry → Type 0) → Inv at pending → (q : P) (e : Entry) → pending q e
       → (x : Entry) → Has (at q) x → x.edges ≡ e.edges → Covered k (at q) e
-  seen_covered at pending inv q e h x g s = Listed x g s (at_most_same_walk x e (inv.ordered q q x e g h) s)
+  seen_covered at pending inv q e h x g s = Listed x g s (at_most_same_walk x e (at_most_here (number q) x e (inv.ordered q q x e g h)) s)
 
   -- what comes behind k others, or is one of them
   full_or : (xs : List Entry) (e : Entry) → ((x : Entry) → Has xs x → AtMost x e) → ((x : Entry) → Has xs x → Before x e) ⊎ ((x : Entry) × Has xs x × (x ≡ e))
@@ -151,7 +152,7 @@ module _ (P : Type 0) (passages : P → List (Passage P)) (source : P) (k : ℕ)
   -- a least pending entry is settled at its pair, and the extensions by the pair's passages are pending or covered
   pub record Settles (at at' : P → List Entry) (pending pending' : P → Entry → Type 0) (q : P) (e : Entry) : Type 0 where
     pub taken : pending q e
-    pub least : (p : P) (x : Entry) → pending p x → AtMost e x
+    pub least : (p : P) (x : Entry) → pending p x → AtMostAt (number q) e (number p) x
     pub new : (x : Entry) → Has (at q) x → x.edges ≡ e.edges → ⊥
     pub room : length (at q) < k
     pub pushed : at' q ≡ at q ++ e ∷ []
@@ -160,7 +161,7 @@ module _ (P : Type 0) (passages : P → List (Passage P)) (source : P) (k : ℕ)
     pub from : (p : P) (x : Entry) → pending' p x → pending p x ⊎ ((m : Passage P) × Has (passages q) m × (m.to ≡ p) × (extend e m.cost m.edges ≡ x))
     pub onward : (m : Passage P) → Has (passages q) m → IsDue at pending' m.to (extend e m.cost m.edges)
 
-  pub inv_settle : ((p : P) (m : Passage P) → Has (passages p) m → IsMoveCost m.cost m.edges)
+  pub inv_settle : ((p : P) (m : Passage P) → Has (passages p) m → IsOnward number p m)
       → (at at' : P → List Entry) (pending pending' : P → Entry → Type 0) (q : P) (e : Entry)
       → Inv at pending → Settles at at' pending pending' q e → Inv at' pending'
   inv_settle costs at at' pending pending' q e inv s =
@@ -193,11 +194,14 @@ module _ (P : Type 0) (passages : P → List (Passage P)) (source : P) (k : ℕ)
         ]
       ] in
       let reach : Reach passages source q e = inv.pending_sound q e s.taken in
-      let before : (x : Entry) → Has (at q) x → Before x e = λ x h. at_most_apart x e (inv.ordered q q x e h s.taken) (s.new x h) in
+      let before : (x : Entry) → Has (at q) x → Before x e = λ x h. at_most_apart x e (at_most_here (number q) x e (inv.ordered q q x e h s.taken)) (s.new x h) in
       -- the least of what was pending is at most what is pending now
-      let bound : (p : P) (x : Entry) → pending' p x → AtMost e x = λ p x h. elim (s.from p x h) [
+      let bound : (p : P) (x : Entry) → pending' p x → AtMostAt (number q) e (number p) x = λ p x h. elim (s.from p x h) [
         | inl g ↦ s.least p x g
-        | inr f ↦ subst (λ v. AtMost e v) f.3 (at_most_extend e (f.0).cost (f.0).edges (costs q f.0 f.1))
+        | inr f ↦
+            let on = costs q f.0 f.1 in
+            subst (λ v. AtMostAt (number q) e (number v) x) f.2
+            (subst (λ v. AtMostAt (number q) e (number (f.0).to) v) f.3 (at_most_at_extend (number q) (number (f.0).to) e (f.0).cost (f.0).edges on.0 on.1))
       ] in
       record {
         sound = λ p x h. elim (was p x h) [
@@ -227,8 +231,8 @@ module _ (P : Type 0) (passages : P → List (Passage P)) (source : P) (k : ℕ)
           | inr d ↦ subst Distinct (sym d.1) (distinct_push (at p) e (inv.distinct p) (λ x h. s.new x (subst (λ v. Has (at v) x) (sym d.0) h)))
         ];
         ordered = λ p r x y h g. elim (was p x h) [
-          | inl i ↦ at_most_trans x e y (inv.ordered p q x e i s.taken) (bound r y g)
-          | inr t ↦ subst (λ v. AtMost v y) t.1 (bound r y g)
+          | inl i ↦ at_most_at_trans (number p) (number q) (number r) x e y (inv.ordered p q x e i s.taken) (bound r y g)
+          | inr t ↦ subst (λ v. AtMostAt (number v) x (number r) y) t.0 (subst (λ v. AtMostAt (number q) v (number r) y) t.1 (bound r y g))
         ];
         begun = due source (entry 0 []) inv.begun;
         closed = λ p x h m g. elim (was p x h) [

@@ -8,11 +8,10 @@ use Rattle.gc_prod.specs.declared.moves.Pair.{Pair}
 use Rattle.gc_prod.specs.Leading.{pair, target_of}
 use Rattle.gc_prod.specs.Products.{Setting, moves}
 use Rattle.gc_search.specs.Arrivals.{FoundWalk, arrivals_at, settled_at, passages, stays_at, extended, extensions, open_moves, TakesLeast, IsNew, IsOld}
-use Rattle.gc_search.specs.Entries.{IsMoveCost}
 use Rattle.gc_search.specs.Finding.{IsFollowed}
-use Rattle.gc_search.specs.Passages.{Has, Passage, Reach, IsFirstK}
+use Rattle.gc_search.specs.Passages.{Has, Passage, IsOnward, Reach, IsFirstK}
 use Rattle.gc_search.proofs.Bridge.{contains_of, follows_push}
-use Rattle.gc_search.proofs.Flat.{State, state_start, state_end, state_same, state_seen, state_full, state_settle, Has_from_map, Has_filtered}
+use Rattle.gc_search.proofs.Flat.{node_of, State, state_start, state_end, state_same, state_seen, state_full, state_settle, Has_from_map, Has_filtered}
 use Rattle.gc_search.proofs.HeapLaws.{has_permuted}
 use Rattle.gc_search.proofs.LoopLaws.{all_has, all_of_has, all_rest, costs_more}
 
@@ -70,7 +69,7 @@ module _ (setting : Setting) (source k : ℕ) where
     turn_old (inl full) = dropped (state_full setting source k settled cs rest c on.state t full)
     turn_old (inr seen) = dropped (state_seen setting source k settled cs rest c on.state t seen)
 
-    pub turn_settles : ((q : Pair) (m : Passage Pair) → Has (passages setting q) m → IsMoveCost m.cost m.edges) → IsNew settled k c
+    pub turn_settles : ((q : Pair) (m : Passage Pair) → Has (passages setting q) m → IsOnward node_of q m) → IsNew settled k c
         → (after : List FoundWalk) → IsPermutation (rest ++ extensions setting c (open_moves settled k (moves setting c.at.node c.at.state))) after
         → AllByRecursion (λ a. a.cost ≤ c.cost + 2 ^ 64) (extensions setting c (open_moves settled k (moves setting c.at.node c.at.state)))
         → IsOn (settled ++ c ∷ []) after

@@ -67,6 +67,7 @@ impl Ord for Arrival {
             .cost
             .cmp(&self.cost)
             .then(other.steps.len().cmp(&self.steps.len()))
+            .then(other.at.node.cmp(&self.at.node))
             .then_with(|| edges_cmp(&other.steps, &self.steps))
     }
 }

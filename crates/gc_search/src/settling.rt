@@ -5,9 +5,8 @@ ghost use Rattle.gc_prod.specs.Leading.{pair};
 ghost use Rattle.gc_prod.specs.Products.{moves, moves_by};
 ghost use Rattle.gc_search.specs.Arrivals.{settled_at, passages, extensions, open_moves, IsNew, IsOld, Told};
 ghost use Rattle.gc_search.specs.Counting.{degree, most_moves};
-ghost use Rattle.gc_search.specs.Entries.{IsMoveCost};
 ghost use Rattle.gc_search.specs.Finding.{IsFollowed};
-ghost use Rattle.gc_search.specs.Passages.{Has, Passage, Reach, IsFirstK};
+ghost use Rattle.gc_search.specs.Passages.{Has, IsOnward, Passage, Reach, IsFirstK};
 
 use crate::arrival::Arrival;
 use crate::pending::Pending;
@@ -110,7 +109,7 @@ pub(crate) fn settle<L: Ledger>(
     k: u32,
     steps: &mut Steps<L>,
 ) -> Result<Settled, Memory>
-    requires costs { (q : Pair) (m : Passage Pair) → Has (passages p.now q) m → IsMoveCost m.cost m.edges }
+    requires costs { (q : Pair) (m : Passage Pair) → Has (passages p.now q) m → IsOnward (λ r. r.node) q m }
     ensures first { IfOk result (λ settled. (q : Pair) → IsFirstK k (Reach (passages p.now) (pair source 0) q) (settled_at settled q)) }
     ensures followed { IfOk result (λ settled. AllByRecursion (IsFollowed p.now source) settled) }
     ensures few { steps.new ≤ steps.old + k * most_moves p.now }
