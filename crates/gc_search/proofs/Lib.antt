@@ -10,5 +10,6 @@ pub mod Order
 pub mod PlaceLaws
 pub mod Settle
 pub mod Turns
+pub mod WaitingLaws
 pub mod WalkFacts
 pub mod WorkLaws

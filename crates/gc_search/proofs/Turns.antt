@@ -34,9 +34,9 @@ module _ (setting : Setting) (source k : ℕ) where
         due = all_of_has (IsFollowed setting source) ys (λ x h. all_has (IsFollowed setting source) xs x on.due (back x h));
       }
 
-  pub turn_start : (pending : List FoundWalk) → IsPermutation (stays_at source ∷ []) pending → IsOn [] pending
-  turn_start pending p =
-      permuted [] (stays_at source ∷ []) pending p (record { state = state_start setting source k; small = (omega arith, tt); found = tt; due = ((refl, refl, refl), tt) })
+  pub turn_start : (pending : List FoundWalk) → stays_at source ∷ [] ≡ pending → IsOn [] pending
+  turn_start pending same =
+      subst (IsOn []) same (record { state = state_start setting source k; small = (omega arith, tt); found = tt; due = ((refl, refl, refl), tt) })
 
   pub turn_end : (settled pending : List FoundWalk) → IsOn settled pending → pending ≡ [] → (q : Pair) → IsFirstK k (Reach (passages setting) (pair source 0) q) (settled_at settled q)
   turn_end settled pending on none = state_end setting source k settled (subst (State setting source k settled) none on.state)

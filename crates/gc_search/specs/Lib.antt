@@ -6,3 +6,4 @@ pub mod FirstWalks
 pub mod HeapOrder
 pub mod Passages
 pub mod Places
+pub mod Waiting

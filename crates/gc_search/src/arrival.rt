@@ -101,9 +101,9 @@ impl Arrival {
         ensures exact { IfOk result (λ longer. longer ≡ extended p.now self.now by) }
         ensures small { by.cost < 2 ^ 64 }
     {
-        let mut steps = Vec::from_slice(alloc, &self.steps)?;
+        let mut steps = with_room(alloc, &self.steps)?;
         add_move(p, by.by, by.node, &mut steps)?;
-        let mut run = Vec::from_slice(alloc, &self.run)?;
+        let mut run = with_room(alloc, &self.run)?;
         run.push(RunMove {
             by: by.by,
             to: by.state,
@@ -118,6 +118,15 @@ impl Arrival {
             run,
         })
     }
+}
+
+// A copy of some items, with room for one more.
+fn with_room<T: Copy>(alloc: Global, items: &[T]) -> Result<Vec<T>, Memory>
+    ensures { IfOk result (λ copy. copy.items ≡ items.now) }
+{
+    let mut copy = Vec::with_capacity(alloc, items.len().saturating_add(1))?;
+    copy.extend_from_slice(items)?;
+    Ok(copy)
 }
 
 fn have_same_edges(steps: &[Step], others: &[Step]) -> bool

@@ -118,7 +118,7 @@ pub(crate) fn settle<L: Ledger>(
     let mut pending = Pending::of(alloc, Arrival::start(alloc, source))?;
     'turns: while let Some(next) = pending.take_least() {
         if is_new(&settled, &next, k) {
-            pending.add_all(all_extended(alloc, p, &next, &settled, k, steps)?)?;
+            pending.add_all(&next, all_extended(alloc, p, &next, &settled, k, steps)?)?;
             settled.push(next)?;
         }
     }

@@ -5,31 +5,33 @@ use Rattle.std.proofs.lemmas.List.{length-map}
 use Rattle.std.proofs.lemmas.List.Sorted.{length_permutation}
 use Rattle.std.proofs.lemmas.List.Sums.{sum_by-append}
 use Rattle.gc_prod.specs.Products.{moves}
-use Rattle.gc_search.specs.Arrivals.{FoundWalk, extended, extensions, open_moves}
+use Rattle.gc_search.specs.Arrivals.{FoundWalk, stays_at, extended, extensions, open_moves}
 use Rattle.gc_search.specs.Counting.{asked, degree}
+use Rattle.gc_search.specs.Waiting.{waiting, IsBehind}
 use Rattle.gc_search.proofs.Turns.{IsOn, turn_start, turn_end, turn_small, turn_old, turn_settles}
+use Rattle.gc_search.proofs.WaitingLaws.{behind_all}
 use Rattle.gc_search.proofs.WorkLaws.{asked_most, asked_more, open_fewer}
 use Rattle.gc_search.proofs.settling.settle.Goals as goal
 
 pub turns-init : goal.turns-init
 turns-init g c =
     let p = c.args.p.now in
-    let pending = c.in_ok-pending.pending in
-    let first = subst (λ (a : FoundWalk). IsPermutation (a ∷ []) pending) c.start.ensures c.in_ok-pending.ensures in
+    let pending = waiting c.in_ok-pending.pending in
+    let first : stays_at c.args.source ∷ [] ≡ pending = sym (ap waiting c.in_ok-pending.ensures ∙ ap (λ (a : FoundWalk). a ∷ []) c.start.ensures) in
     record {
       on = subst (λ (l : List FoundWalk). IsOn p c.args.source c.args.k l pending) (sym c.in_ok-settled.ensures) (turn_start p c.args.source c.args.k pending first);
       few = omega arith;
     }
 
 pub returns-clause-first : goal.returns-clause-first
-returns-clause-first g c = λ q. turn_end c.args.p.now c.args.source c.args.k c.turns.settled c.turns.pending c.turns.invariant.on c.in_default.ensures.none q
+returns-clause-first g c = λ q. turn_end c.args.p.now c.args.source c.args.k c.turns.settled (waiting c.turns.pending) c.turns.invariant.on c.in_default.ensures.none q
 
 pub returns-clause-few : goal.returns-clause-few
 returns-clause-few g c = omega (arith, c.turns.invariant.few, asked_most c.args.p.now c.args.k c.turns.settled c.turns.invariant.on.state.few)
 
 pub all_extended-requires : goal.all_extended-requires
 all_extended-requires g c =
-    let small = turn_small c.args.p.now c.args.source c.args.k c.turns.settled c.turns.pending c.take_least.new.self c.in-Some.next c.turns.invariant.on c.in-Some.ensures.some in
+    let small = turn_small c.args.p.now c.args.source c.args.k c.turns.settled (waiting c.turns.pending) (waiting c.take_least.new.self) c.in-Some.next c.turns.invariant.on c.in-Some.ensures.some.takes in
     omega (arith, small, c.is_new.ensures.few)
 
 pub returns-in_err-all_extended-clause-few : goal.returns-in_err-all_extended-clause-few
@@ -55,7 +57,7 @@ pub turns-preserved : goal.turns-preserved
 turns-preserved g c =
     let inv = c.turns.invariant in
     record {
-      on = turn_old c.args.p.now c.args.source c.args.k c.turns.settled c.turns.pending c.take_least.new.self c.in-Some.next inv.on c.in-Some.ensures.some c.if-is_new.ensures.told;
+      on = turn_old c.args.p.now c.args.source c.args.k c.turns.settled (waiting c.turns.pending) (waiting c.take_least.new.self) c.in-Some.next inv.on c.in-Some.ensures.some.takes c.if-is_new.ensures.told;
       few = inv.few;
     }
 
@@ -67,8 +69,8 @@ turns-preserved-in_ok-push g c =
     let walks = c.turns.settled in
     let next = c.in-Some.next in
     let inv = c.turns.invariant in
-    let rest = c.take_least.new.self in
-    let after = c.add_all.new.self in
+    let rest = waiting c.take_least.new.self in
+    let after = waiting c.add_all.new.self in
     let more = extensions p next (open_moves walks k (moves p next.at.node next.at.state)) in
     let exact : c.in_ok-all_extended.field-0.items ≡ more = c.in_ok-all_extended.ensures.exact in
     let grown : IsPermutation (rest ++ more) after = subst (λ (l : List FoundWalk). IsPermutation (rest ++ l) after) exact c.in_ok-add_all.ensures in
@@ -77,7 +79,7 @@ turns-preserved-in_ok-push g c =
     let single : sum_by (degree p) (next ∷ []) ≡ degree p next = omega arith in
     record {
       on = subst (λ (l : List FoundWalk). IsOn p c.args.source k l after) (sym one)
-          (turn_settles p c.args.source k walks c.turns.pending rest next inv.on c.in-Some.ensures.some c.requires.costs c.if-is_new.ensures.told after grown small);
+          (turn_settles p c.args.source k walks (waiting c.turns.pending) rest next inv.on c.in-Some.ensures.some.takes c.requires.costs c.if-is_new.ensures.told after grown small);
       few = omega (arith, inv.few, c.all_extended.ensures.few, ap (asked p) one, sum_by-append (degree p) walks (next ∷ []), single);
     }
 
@@ -88,8 +90,8 @@ turns-smaller-in_ok-push g c =
     let walks = c.turns.settled in
     let next = c.in-Some.next in
     let inv = c.turns.invariant in
-    let rest = c.take_least.new.self in
-    let after = c.add_all.new.self in
+    let rest = waiting c.take_least.new.self in
+    let after = waiting c.add_all.new.self in
     let ms = moves p next.at.node next.at.state in
     let some = open_moves walks k ms in
     let more = extensions p next some in
@@ -100,4 +102,13 @@ turns-smaller-in_ok-push g c =
     let single : sum_by (degree p) (next ∷ []) ≡ length ms = omega arith in
     let larger : length after ≡ length rest + length some =
     length_permutation (rest ++ more) after grown ∙ (length-append rest more ∙ ap (λ n. length rest + n) (length-map some (extended p next))) in
-    omega (arith, one, single, larger, open_fewer walks k ms, c.in-Some.ensures.some.shorter, asked_more p k walks inv.on.state.few next new.0)
+    omega (arith, one, single, larger, open_fewer walks k ms, c.in-Some.ensures.some.takes.shorter, asked_more p k walks inv.on.state.few next new.0)
+
+pub add_all-requires : goal.add_all-requires
+add_all-requires g c =
+    let p = c.args.p.now in
+    let next = c.in-Some.next in
+    record {
+      led = c.in-Some.ensures.some.led;
+      behind = subst (AllByRecursion (IsBehind next)) (sym c.in_ok-all_extended.ensures.exact) (behind_all p c.requires.costs next c.turns.settled c.args.k);
+    }
