@@ -1,9 +1,9 @@
 -- The settling loop: settled lists at each pair, and what is pending; the invariant, its three steps and its end.
 use Rattle.std.proofs.Common.{◌≡◌, ℕ, ◌<◌, ◌≤◌, List, [], ◌∷◌, ◌++◌, length, refl, sym, ap, ◌∙◌, subst, arith, inl, inr, ◌⊎◌, length-append}
 use Rattle.gc_search.specs.Entries.{Entry, entry, Before, AtMost, AtMostAt, Strictly, Same, extend}
-use Rattle.gc_search.specs.Passages.{Has, Passage, IsOnward, Goes, Reach, IsFirstK, Rises, Covered, Listed, Past}
+use Rattle.gc_search.specs.Passages.{Has, Passage, IsOnward, IsCounted, Goes, Reach, IsFirstK, Rises, Covered, Listed, Past}
 use Rattle.gc_search.proofs.First.{Distinct, first_k}
-use Rattle.gc_search.proofs.Order.{at_most_same_walk, at_most_apart, at_most_here, at_most_at_trans, at_most_at_extend}
+use Rattle.gc_search.proofs.Order.{before_at_most, before_same_walk, at_most_same_walk, at_most_apart, at_most_here, at_most_at_trans, at_most_at_extend}
 
 pub Has_front : {X : Type 0} (xs ys : List X) (x : X) → Has xs x → Has (xs ++ ys) x
 Has_front [] ys x h = elim h [ ]
@@ -243,3 +243,37 @@ module _ (P : Type 0) (passages : P → List (Passage P)) (source : P) (k : ℕ)
           ])
         ];
       }
+
+-- where all passages cost 1 for each edge, so do walks
+goes_counted : {P : Type 0} (passages : P → List (Passage P)) → ((p : P) (m : Passage P) → Has (passages p) m → IsCounted m)
+    → (run : List (Passage P)) (p q : P) (e f : Entry) → Goes passages p e run q f → e.cost ≡ length e.edges → f.cost ≡ length f.edges
+goes_counted passages each [] p q e f g c = subst (λ v. v.cost ≡ length v.edges) g.1 c
+goes_counted passages each (m ∷ run) p q e f g c =
+    let one : m.cost ≡ length m.edges = each p m g.0 in
+    goes_counted passages each run m.to q (extend e m.cost m.edges) f g.1 (omega (arith, c, one, length-append e.edges m.edges))
+
+-- the last of what rises is behind the others
+rises_last : (xs : List Entry) (y x : Entry) → Rises (xs ++ y ∷ []) → Has (xs ++ y ∷ []) x → Before x y ⊎ (y ≡ x)
+rises_last [] y x r (inl e) = inr e
+rises_last [] y x r (inr h) = elim h [ ]
+rises_last (z ∷ xs) y x r (inl e) = inl (subst (λ v. Before v y) e (r.0 y (Has_back xs y)))
+rises_last (z ∷ xs) y x r (inr h) = rises_last xs y x r.1 h
+
+module _ (P : Type 0) (passages : P → List (Passage P)) (source : P) (k : ℕ) (number : P → ℕ) (each : (p : P) (m : Passage P) → Has (passages p) m → IsCounted m) where
+  -- of walks whose edges tell their costs, one that is pending can have the edges of the last alone
+  pub last_alone : (at : P → List Entry) (pending : P → Entry → Type 0) → Inv P passages source k number at pending → (q : P) (e : Entry) → pending q e
+      → (xs : List Entry) (y : Entry) → at q ≡ xs ++ y ∷ [] → (y.edges ≡ e.edges → ⊥) → (x : Entry) → Has (at q) x → x.edges ≡ e.edges → ⊥
+  last_alone at pending inv q e h xs y is other x g same =
+      let mine = inv.sound q x g in
+      let theirs = inv.pending_sound q e h in
+      let a : x.cost ≡ length x.edges = goes_counted passages each mine.0 source q (entry 0 []) x mine.1 refl in
+      let b : e.cost ≡ length e.edges = goes_counted passages each theirs.0 source q (entry 0 []) e theirs.1 refl in
+      let cost : x.cost ≡ e.cost = omega (arith, a, b, ap length same) in
+      let last : Has (at q) y = subst (λ v. Has v y) (sym is) (Has_back xs y) in
+      elim (rises_last xs y x (subst Rises is (inv.ascends q)) (subst (λ v. Has v x) is g)) [
+        | inl before ↦
+            let between : AtMost y e = at_most_here (number q) y e (inv.ordered q q y e last h) in
+            let less = before_same_walk x e (before_at_most x y e before between) same in
+            omega (arith, less, cost)
+        | inr d ↦ other (ap (λ (v : Entry). v.edges) d ∙ same)
+      ]

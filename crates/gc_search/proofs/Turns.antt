@@ -1,19 +1,25 @@
 -- The turns of the search: one that settles the least walk that is pending, and two that drop it.
-use Rattle.std.proofs.Common.{◌≡◌, ℕ, ◌+◌, ◌*◌, ◌^◌, ◌≤◌, List, [], ◌∷◌, ◌++◌, inl, inr, length, nat_lt, refl, subst, arith, length-append}
+use Rattle.std.proofs.Common.{◌≡◌, ℕ, ◌+◌, ◌*◌, ◌^◌, ◌≤◌, List, [], ◌∷◌, ◌++◌, inl, inr, length, map, Bool, true, false, nat_lt, refl, ap, ◌∙◌, subst, arith, length-append}
 use Rattle.std.specs.List.{AllByRecursion}
 use Rattle.std.specs.List.Sorted.{IsPermutation}
+use Rattle.std.proofs.lemmas.List.{map-append}
 use Rattle.std.proofs.lemmas.List.Sorted.{IsPermutation-sym}
 use Rattle.gc_base.proofs.SetLaws.{AllByRecursion-append}
 use Rattle.gc_prod.specs.declared.moves.Pair.{Pair}
 use Rattle.gc_prod.specs.Leading.{pair, target_of}
 use Rattle.gc_prod.specs.Products.{Setting, moves}
-use Rattle.gc_search.specs.Arrivals.{FoundWalk, arrivals_at, settled_at, passages, stays_at, extended, extensions, open_moves, TakesLeast, IsNew, IsOld}
+use Rattle.gc_search.specs.Arrivals.{FoundWalk, entry_of, arrivals_at, settled_at, passages, stays_at, extended, extensions, open_moves, TakesLeast, IsNew, IsOld, IsSeen, IsUnknown}
 use Rattle.gc_search.specs.Finding.{IsFollowed}
-use Rattle.gc_search.specs.Passages.{Has, Passage, IsOnward, Reach, IsFirstK}
+use Rattle.gc_search.specs.Passages.{Has, Passage, IsOnward, IsCounted, Reach, IsFirstK}
 use Rattle.gc_search.proofs.Bridge.{contains_of, follows_push}
-use Rattle.gc_search.proofs.Flat.{node_of, State, state_start, state_end, state_same, state_seen, state_full, state_settle, Has_from_map, Has_filtered}
+use Rattle.gc_search.proofs.Flat.{node_of, IsPending, State, state_start, state_end, state_same, state_seen, state_full, state_settle, Has_from_map, Has_filtered}
 use Rattle.gc_search.proofs.HeapLaws.{has_permuted}
+use Rattle.gc_search.proofs.Settle.{last_alone}
 use Rattle.gc_search.proofs.LoopLaws.{all_has, all_of_has, all_rest, costs_more}
+
+last_of : (x : FoundWalk) (xs : List FoundWalk) → (before : List FoundWalk) × (y : FoundWalk) × ((x ∷ xs) ≡ before ++ y ∷ [])
+last_of x [] = ([], x, refl)
+last_of x (z ∷ xs) = let l = last_of z xs in (x ∷ l.0, l.1, ap (λ v. x ∷ v) l.2)
 
 module _ (setting : Setting) (source k : ℕ) where
   -- what holds before and after each turn: each that is pending costs at most so much for each that is settled
@@ -68,6 +74,19 @@ module _ (setting : Setting) (source k : ℕ) where
     pub turn_old : IsOld settled k c → IsOn settled rest
     turn_old (inl full) = dropped (state_full setting source k settled cs rest c on.state t full)
     turn_old (inr seen) = dropped (state_seen setting source k settled cs rest c on.state t seen)
+
+    -- a walk that may be new is so
+    pub turn_unseen : (plain : Bool) → (plain ≡ true → (q : Pair) (m : Passage Pair) → Has (passages setting q) m → IsCounted m) → IsUnknown plain settled c → IsSeen settled c → ⊥
+    turn_unseen false each new seen = new seen
+    turn_unseen true each new seen = by (arrivals_at settled c.at) refl
+      where
+        by : (found : List FoundWalk) → arrivals_at settled c.at ≡ found → ⊥
+        by [] e = subst (λ (l : List FoundWalk). Has (map entry_of l) seen.0) e seen.1
+        by (x ∷ rest) e =
+            let l = last_of x rest in
+            let is : arrivals_at settled c.at ≡ l.0 ++ l.1 ∷ [] = e ∙ l.2 in
+            last_alone Pair (passages setting) (pair source 0) k node_of (each refl) (settled_at settled) (IsPending cs) on.state c.at (entry_of c) (c, t.there, refl, refl)
+            (map entry_of l.0) (entry_of l.1) (ap (map entry_of) is ∙ map-append entry_of l.0 (l.1 ∷ [])) (new l.0 l.1 is) seen.0 seen.1 seen.2
 
     pub turn_settles : ((q : Pair) (m : Passage Pair) → Has (passages setting q) m → IsOnward node_of q m) → IsNew settled k c
         → (after : List FoundWalk) → IsPermutation (rest ++ extensions setting c (open_moves settled k (moves setting c.at.node c.at.state))) after

@@ -84,3 +84,15 @@ IsNew settled k a = (length (settled_at settled a.at) < k) × (IsSeen settled a 
 
 abbrev pub IsOld : List FoundWalk → ℕ → FoundWalk → Type 0
 IsOld settled k a = (k ≤ length (settled_at settled a.at)) ⊎ IsSeen settled a
+
+-- the last walk at its pair has other edges
+abbrev pub IsNotLast : List FoundWalk → FoundWalk → Type 0
+IsNotLast settled a = (xs : List FoundWalk) (y : FoundWalk) → arrivals_at settled a.at ≡ xs ++ y ∷ [] → edges_along y.steps ≡ edges_along a.steps → ⊥
+
+-- where the edges tell the cost, the last walk at the pair is looked at, and else all are
+abbrev pub IsUnknown : Bool → List FoundWalk → FoundWalk → Type 0
+IsUnknown true settled a = IsNotLast settled a
+IsUnknown false settled a = IsSeen settled a → ⊥
+
+abbrev pub IsFree : Bool → List FoundWalk → ℕ → FoundWalk → Type 0
+IsFree plain settled k a = (length (settled_at settled a.at) < k) × IsUnknown plain settled a

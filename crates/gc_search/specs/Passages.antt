@@ -17,6 +17,10 @@ pub record Passage (P : Type 0) : Type 0 where
 abbrev pub IsOnward : {P : Type 0} → (P → ℕ) → P → Passage P → Type 0
 IsOnward number p m = IsMoveCost m.cost m.edges × (m.cost ≡ 0 → number p ≡ number m.to)
 
+-- it costs 1 for each edge
+abbrev pub IsCounted : {P : Type 0} → Passage P → Type 0
+IsCounted m = m.cost ≡ length m.edges
+
 -- passages lead from a place with what is passed so far to a place with all that is passed
 abbrev pub Goes : {P : Type 0} → (P → List (Passage P)) → P → Entry → List (Passage P) → P → Entry → Type 0
 Goes passages p e [] q f = (p ≡ q) × (e ≡ f)

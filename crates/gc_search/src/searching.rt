@@ -1,4 +1,4 @@
-ghost use Rattle.std.specs.Prelude.{◌+◌, ◌*◌, ◌<◌, ◌≤◌, ℕ, IfOk};
+ghost use Rattle.std.specs.Prelude.{◌≡◌, ◌+◌, ◌*◌, ◌<◌, ◌≤◌, [], true, ℕ, IfOk};
 ghost use Rattle.std.specs.List.{AllByRecursion};
 ghost use Rattle.gc_regx.specs.Expressions.{HasParts};
 ghost use Rattle.gc_regx.specs.Trees.{RegexTree, ARegex};
@@ -45,10 +45,18 @@ pub fn search<L: Ledger>(
     runs_pass_the_conforming_walks();
     let _nodes = p.nodes();
     let last = p.states().saturating_sub(1);
-    let walks = settle(alloc, p, source, k, steps)?;
+    let walks = settle(alloc, p, source, k, is_plain(p), steps)?;
     Ok(Found {
         source,
         last,
         walks,
     })
+}
+
+// Whether there is no segment, so that a walk costs 1 for each edge.
+fn is_plain(p: &Product) -> bool
+    requires { AreSegments p.now.network.graph p.now.network.segments }
+    ensures { result ≡ true → p.now.network.segments ≡ [] }
+{
+    p.segment_steps(0).is_empty()
 }

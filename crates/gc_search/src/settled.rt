@@ -2,7 +2,7 @@ ghost use Rattle.std.specs.Prelude.{◌≡◌, ◌+◌, ◌*◌, ◌^◌, ◌<�
 ghost use Rattle.std.specs.Option.{option_copied};
 ghost use Rattle.std.specs.Ordering.{nat_cmp};
 ghost use Rattle.gc_base.specs.Ascending.{Ascends};
-ghost use Rattle.gc_search.specs.Arrivals.{arrivals_at, settled_at, IsSeen, Told};
+ghost use Rattle.gc_search.specs.Arrivals.{arrivals_at, IsNotLast, IsSeen, Told};
 ghost use Rattle.gc_search.specs.Places.{place_in, number_of, places_from};
 
 use crate::arrival::Arrival;
@@ -63,6 +63,17 @@ impl Settled {
             }
         }
         false
+    }
+
+    // Whether the edges of a walk are those of the last one that is settled at its pair.
+    pub(crate) fn is_last(&self, next: &Arrival) -> bool
+        ensures { Told result (IsSeen self.now next.now) (IsNotLast self.now next.now) }
+    {
+        let places = self.places_at(&next.at);
+        if places.len() == 0 {
+            return false;
+        }
+        self.walks[places[places.len() - 1]].has_edges_of(next)
     }
 
     // How many are settled at a pair.

@@ -1,12 +1,12 @@
-ghost use Rattle.std.specs.Prelude.{◌≡◌, ◌+◌, ◌*◌, ◌<◌, ◌≤◌, ◌^◌, ◌++◌, ◌∷◌, [], length, IfOk, OnOk};
+ghost use Rattle.std.specs.Prelude.{◌≡◌, ◌+◌, ◌*◌, ◌<◌, ◌≤◌, ◌^◌, ◌++◌, ◌∷◌, [], length, true, IfOk, OnOk};
 ghost use Rattle.std.specs.List.{AllByRecursion};
 ghost use Rattle.gc_prod.specs.declared.moves.Pair.{Pair};
 ghost use Rattle.gc_prod.specs.Leading.{pair};
 ghost use Rattle.gc_prod.specs.Products.{moves, moves_by};
-ghost use Rattle.gc_search.specs.Arrivals.{settled_at, passages, extensions, open_moves, IsNew, IsOld, Told};
+ghost use Rattle.gc_search.specs.Arrivals.{settled_at, passages, extensions, open_moves, IsFree, IsOld, IsSeen, IsUnknown, Told};
 ghost use Rattle.gc_search.specs.Counting.{degree, most_moves};
 ghost use Rattle.gc_search.specs.Finding.{IsFollowed};
-ghost use Rattle.gc_search.specs.Passages.{Has, IsOnward, Passage, Reach, IsFirstK};
+ghost use Rattle.gc_search.specs.Passages.{Has, IsCounted, IsOnward, Passage, Reach, IsFirstK};
 
 use crate::arrival::Arrival;
 use crate::pending::Pending;
@@ -92,24 +92,39 @@ fn all_extended<L: Ledger>(
     Ok(more)
 }
 
+// Whether the edges of a walk are those of one that is settled at its pair. Where the edges tell the cost
+// of a walk, that can only be the last one.
+fn is_known(settled: &Settled, next: &Arrival, plain: bool) -> bool
+    ensures { Told result (IsSeen settled.now next.now) (IsUnknown plain settled.now next.now) }
+{
+    if plain {
+        settled.is_last(next)
+    } else {
+        settled.is_seen(next)
+    }
+}
+
 // Whether a walk is to be settled: fewer than k are at its pair, and none with its edges.
-fn is_new(settled: &Settled, next: &Arrival, k: u32) -> bool
-    ensures told { Told result (IsNew settled.now k next.now) (IsOld settled.now k next.now) }
+fn is_new(settled: &Settled, next: &Arrival, k: u32, plain: bool) -> bool
+    ensures told { Told result (IsFree plain settled.now k next.now) (IsOld settled.now k next.now) }
     ensures few { length settled.now < 2 ^ 63 }
 {
-    settled.count_at(&next.at) < k as usize && !settled.is_seen(next)
+    settled.count_at(&next.at) < k as usize && !is_known(settled, next, plain)
 }
 
 // Settles the first walks to each pair: takes the least one that is pending, and where fewer than k are
-// settled at its pair and it is none of these, settles it and adds its extensions.
+// settled at its pair and it is none of these, settles it and adds its extensions. In a plain product
+// each move costs 1 for each edge.
 pub(crate) fn settle<L: Ledger>(
     alloc: Global,
     p: &Product,
     source: Id,
     k: u32,
+    plain: bool,
     steps: &mut Steps<L>,
 ) -> Result<Settled, Memory>
     requires costs { (q : Pair) (m : Passage Pair) → Has (passages p.now q) m → IsOnward (λ r. r.node) q m }
+    requires plain { plain ≡ true → (q : Pair) (m : Passage Pair) → Has (passages p.now q) m → IsCounted m }
     ensures first { IfOk result (λ settled. (q : Pair) → IsFirstK k (Reach (passages p.now) (pair source 0) q) (settled_at settled q)) }
     ensures followed { IfOk result (λ settled. AllByRecursion (IsFollowed p.now source) settled) }
     ensures few { steps.new ≤ steps.old + k * most_moves p.now }
@@ -117,7 +132,7 @@ pub(crate) fn settle<L: Ledger>(
     let mut settled = Settled::of(alloc, p.nodes(), p.width())?;
     let mut pending = Pending::of(alloc, Arrival::start(alloc, source))?;
     'turns: while let Some(next) = pending.take_least() {
-        if is_new(&settled, &next, k) {
+        if is_new(&settled, &next, k, plain) {
             pending.add_all(&next, all_extended(alloc, p, &next, &settled, k, steps)?)?;
             settled.push(next)?;
         }

@@ -7,11 +7,14 @@ use Rattle.gc_search.specs.Finding.{costed}
 use Rattle.gc_search.specs.FirstWalks.{AreFirst, IsRunTo, IsRun}
 use Rattle.gc_search.proofs.ConformLaws.{run_conforms, conforms_run}
 use Rattle.gc_search.proofs.FirstLaws.{first_walks, first_other, potential_is}
-use Rattle.gc_search.proofs.WalkFacts.{passage_onward}
+use Rattle.gc_search.proofs.WalkFacts.{passage_onward, passage_counted}
 use Rattle.gc_search.proofs.searching.search.Goals as goal
 
 pub settle-requires : goal.settle-requires
-settle-requires g c = record { costs = passage_onward c.args.p.now c.requires.segments }
+settle-requires g c = record {
+  costs = passage_onward c.args.p.now c.requires.segments;
+  plain = λ plain. passage_counted c.args.p.now (c.is_plain.ensures plain);
+}
 
 pub returns-clause-runs : goal.returns-clause-runs
 returns-clause-runs g c = λ target.

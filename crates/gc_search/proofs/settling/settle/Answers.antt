@@ -5,10 +5,10 @@ use Rattle.std.proofs.lemmas.List.{length-map}
 use Rattle.std.proofs.lemmas.List.Sorted.{length_permutation}
 use Rattle.std.proofs.lemmas.List.Sums.{sum_by-append}
 use Rattle.gc_prod.specs.Products.{moves}
-use Rattle.gc_search.specs.Arrivals.{FoundWalk, stays_at, extended, extensions, open_moves}
+use Rattle.gc_search.specs.Arrivals.{FoundWalk, stays_at, extended, extensions, open_moves, IsNew}
 use Rattle.gc_search.specs.Counting.{asked, degree}
 use Rattle.gc_search.specs.Waiting.{waiting, IsBehind}
-use Rattle.gc_search.proofs.Turns.{IsOn, turn_start, turn_end, turn_small, turn_old, turn_settles}
+use Rattle.gc_search.proofs.Turns.{IsOn, turn_start, turn_end, turn_small, turn_old, turn_unseen, turn_settles}
 use Rattle.gc_search.proofs.WaitingLaws.{behind_all}
 use Rattle.gc_search.proofs.WorkLaws.{asked_most, asked_more, open_fewer}
 use Rattle.gc_search.proofs.settling.settle.Goals as goal
@@ -72,6 +72,11 @@ turns-preserved-in_ok-push g c =
     let rest = waiting c.take_least.new.self in
     let after = waiting c.add_all.new.self in
     let more = extensions p next (open_moves walks k (moves p next.at.node next.at.state)) in
+    let told = c.if-is_new.ensures.told in
+    let fresh : IsNew walks k next = (
+      told.0,
+      turn_unseen p c.args.source k walks (waiting c.turns.pending) rest next inv.on c.in-Some.ensures.some.takes c.args.plain c.requires.plain told.1,
+    ) in
     let exact : c.in_ok-all_extended.field-0.items ≡ more = c.in_ok-all_extended.ensures.exact in
     let grown : IsPermutation (rest ++ more) after = subst (λ (l : List FoundWalk). IsPermutation (rest ++ l) after) exact c.in_ok-add_all.ensures in
     let small = subst (AllByRecursion (λ (a : FoundWalk). a.cost ≤ next.cost + 2 ^ 64)) exact c.in_ok-all_extended.ensures.small in
@@ -79,7 +84,7 @@ turns-preserved-in_ok-push g c =
     let single : sum_by (degree p) (next ∷ []) ≡ degree p next = omega arith in
     record {
       on = subst (λ (l : List FoundWalk). IsOn p c.args.source k l after) (sym one)
-          (turn_settles p c.args.source k walks (waiting c.turns.pending) rest next inv.on c.in-Some.ensures.some.takes c.requires.costs c.if-is_new.ensures.told after grown small);
+          (turn_settles p c.args.source k walks (waiting c.turns.pending) rest next inv.on c.in-Some.ensures.some.takes c.requires.costs fresh after grown small);
       few = omega (arith, inv.few, c.all_extended.ensures.few, ap (asked p) one, sum_by-append (degree p) walks (next ∷ []), single);
     }
 
