@@ -14,7 +14,7 @@ use Rattle.gc_search.specs.Arrivals.{FoundWalk, edges_along, entry_of, same_pair
 use Rattle.gc_search.specs.Entries.{Entry, entry, AtMostAt, extend}
 use Rattle.gc_search.specs.Passages.{Has, Passage, IsOnward, Reach, IsFirstK}
 use Rattle.gc_search.proofs.Order.{at_most_here, at_most_at_trans, at_most_at_extend}
-use Rattle.gc_search.proofs.Settle.{Has_front, Inv, IsDue, inv_start, inv_end, inv_same, seen_covered, full_covered, inv_drop, inv_settle}
+use Rattle.gc_search.proofs.Settle.{Has_front, Inv, IsDue, inv_start, inv_end, inv_full, inv_same, seen_covered, full_covered, inv_drop, inv_settle}
 
 eqb_same : (a b : ℕ) → (a == b) ≡ true → a ≡ b
 eqb_same a b h = grind (arith, nat_tests)
@@ -125,6 +125,10 @@ module _ (setting : Setting) (source : ℕ) (k : ℕ) where
 
   pub state_end : (settled : List FoundWalk) → State settled [] → (q : Pair) → IsFirstK k (Reach (passages setting) (pair source 0) q) (settled_at settled q)
   state_end settled s = inv_end Pair (passages setting) (pair source 0) k node_of (settled_at settled) (IsPending []) s (λ p e h. h.1)
+
+  pub state_full_at : ((p : Pair) (m : Passage Pair) → Has (passages setting p) m → IsOnward node_of p m) → (settled cs : List FoundWalk) → State settled cs
+      → (q : Pair) → k ≤ length (settled_at settled q) → IsFirstK k (Reach (passages setting) (pair source 0) q) (settled_at settled q)
+  state_full_at costs settled cs s = inv_full Pair (passages setting) (pair source 0) k node_of costs (settled_at settled) (IsPending cs) s
 
   module _ (settled cs rest : List FoundWalk) (c : FoundWalk) (s : State settled cs) (t : TakesLeast cs c rest) where
     taken : IsPending cs c.at (entry_of c)

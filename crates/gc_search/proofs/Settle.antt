@@ -1,9 +1,9 @@
 -- The settling loop: settled lists at each pair, and what is pending; the invariant, its three steps and its end.
-use Rattle.std.proofs.Common.{◌≡◌, ℕ, ◌<◌, ◌≤◌, List, [], ◌∷◌, ◌++◌, length, refl, sym, ap, ◌∙◌, subst, arith, inl, inr, ◌⊎◌, length-append}
-use Rattle.gc_search.specs.Entries.{Entry, entry, Before, AtMost, AtMostAt, Strictly, Same, extend}
+use Rattle.std.proofs.Common.{◌≡◌, ℕ, ◌+◌, ◌<◌, ◌≤◌, List, [], ◌∷◌, ◌++◌, length, refl, sym, ap, ◌∙◌, subst, arith, inl, inr, ◌⊎◌, length-append}
+use Rattle.gc_search.specs.Entries.{Entry, entry, Before, AtMost, AtMostAt, Here, Strictly, Same, extend}
 use Rattle.gc_search.specs.Passages.{Has, Passage, IsOnward, IsCounted, Goes, Reach, IsFirstK, Rises, Covered, Listed, Past}
-use Rattle.gc_search.proofs.First.{Distinct, first_k}
-use Rattle.gc_search.proofs.Order.{before_at_most, before_same_walk, at_most_same_walk, at_most_apart, at_most_here, at_most_at_trans, at_most_at_extend}
+use Rattle.gc_search.proofs.First.{Distinct, covered_up, covered_step, first_of, first_k}
+use Rattle.gc_search.proofs.Order.{before_at_most, before_same_walk, before_extend, same_walk_at_most, at_most_same_walk, at_most_apart, at_most_here, at_most_at_trans, at_most_at_extend}
 
 pub Has_front : {X : Type 0} (xs ys : List X) (x : X) → Has xs x → Has (xs ++ ys) x
 Has_front [] ys x h = elim h [ ]
@@ -277,3 +277,68 @@ module _ (P : Type 0) (passages : P → List (Passage P)) (source : P) (k : ℕ)
             omega (arith, less, cost)
         | inr d ↦ other (ap (λ (v : Entry). v.edges) d ∙ same)
       ]
+
+-- the end at one place: what leads on from what is settled is covered, or something that is pending comes no later
+module _ (P : Type 0) (passages : P → List (Passage P)) (source : P) (k : ℕ) (number : P → ℕ) (costs : (p : P) (m : Passage P) → Has (passages p) m → IsOnward number p m)
+    (at : P → List Entry) (pending : P → Entry → Type 0) (inv : Inv P passages source k number at pending) where
+  abbrev Earlier : P → Entry → Type 0
+  Earlier p e = (r : P) × (x : Entry) × pending r x × AtMostAt (number r) x (number p) e
+
+  abbrev IsMet : P → Entry → Type 0
+  IsMet p e = Covered k (at p) e ⊎ Earlier p e
+
+  -- of extensions all are covered, or one is pending
+  all_or : (m : Passage P) (xs : List Entry) → ((x : Entry) → Has xs x → IsDue P passages source k number at pending m.to (extend x m.cost m.edges))
+      → ((x : Entry) → Has xs x → Covered k (at m.to) (extend x m.cost m.edges)) ⊎ ((x : Entry) × Has xs x × pending m.to (extend x m.cost m.edges))
+  all_or m [] due = inl (λ x h. elim h [ ])
+  all_or m (y ∷ xs) due = elim (due y (inl refl)) [
+    | inr h ↦ inr (y, inl refl, h)
+    | inl c ↦ elim (all_or m xs (λ x h. due x (inr h))) [
+      | inr one ↦ inr (one.0, inr one.1, one.2)
+      | inl all ↦ inl (λ x h. elim h [ inl d ↦ subst (λ v. Covered k (at m.to) (extend v m.cost m.edges)) d c | inr g ↦ all x g ])
+    ]
+  ]
+
+  met_step : (p : P) (e : Entry) (m : Passage P) → Has (passages p) m → IsMet p e → IsMet m.to (extend e m.cost m.edges)
+  met_step p e m h (inr early) =
+      let on = costs p m h in
+      inr (
+        early.0,
+        early.1,
+        early.2,
+        at_most_at_trans (number early.0) (number p) (number m.to) early.1 e (extend e m.cost m.edges) early.3 (at_most_at_extend (number p) (number m.to) e m.cost m.edges on.0 on.1),
+      )
+  met_step p e m h (inl (Listed x g d n)) =
+      let same : x.edges ++ m.edges ≡ e.edges ++ m.edges = ap (λ v. v ++ m.edges) d in
+      let le : x.cost + m.cost ≤ e.cost + m.cost = omega (arith, n) in
+      let most = same_walk_at_most (extend x m.cost m.edges) (extend e m.cost m.edges) same le in
+      elim (inv.closed p x g m h) [
+        | inl c ↦ inl (covered_up k (at m.to) (extend x m.cost m.edges) (extend e m.cost m.edges) most same c)
+        | inr i ↦ inr (m.to, extend x m.cost m.edges, i, Here refl most)
+      ]
+  met_step p e m h (inl (Past n before)) = elim (all_or m (at p) (λ x g. inv.closed p x g m h)) [
+    | inl all ↦ inl (covered_step k m.cost m.edges (at p) (at m.to) e (inv.distinct p) (inv.few m.to) all (Past n before))
+    | inr one ↦ inr (
+      m.to,
+      extend one.0 m.cost m.edges,
+      one.2,
+      Here refl (Strictly (before_extend one.0 e m.cost m.edges (before one.0 one.1))),
+    )
+  ]
+
+  met_run : (run : List (Passage P)) (p q : P) (e f : Entry) → IsMet p e → Goes passages p e run q f → IsMet q f
+  met_run [] p q e f met g = subst (λ v. IsMet q v) g.1 (subst (λ v. IsMet v e) g.0 met)
+  met_run (m ∷ run) p q e f met g = met_run run m.to q (extend e m.cost m.edges) f (met_step p e m g.0 met) g.1
+
+  met_start : IsMet source (entry 0 [])
+  met_start = elim inv.begun [ inl c ↦ inl c | inr h ↦ inr (source, entry 0 [], h, Here refl (Same refl)) ]
+
+  -- a place that is full has the first k
+  pub inv_full : (q : P) → k ≤ length (at q) → IsFirstK k (Reach passages source q) (at q)
+  inv_full q full =
+      first_of k (Reach passages source q) (at q) (inv.distinct q) (inv.few q) (inv.ascends q) (inv.sound q)
+      (λ e r. elim (met_run r.0 source q (entry 0 []) e met_start r.1) [
+        | inl c ↦ c
+        | inr early ↦ full_covered P passages source k number (at q) e
+            (λ y g. at_most_here (number q) y e (at_most_at_trans (number q) (number early.0) (number q) y early.1 e (inv.ordered q early.0 y early.1 g early.2) early.3)) full
+      ])

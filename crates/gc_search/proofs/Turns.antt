@@ -1,5 +1,5 @@
 -- The turns of the search: one that settles the least walk that is pending, and two that drop it.
-use Rattle.std.proofs.Common.{◌≡◌, ℕ, ◌+◌, ◌*◌, ◌^◌, ◌≤◌, List, [], ◌∷◌, ◌++◌, inl, inr, length, map, Bool, true, false, nat_lt, refl, ap, ◌∙◌, subst, arith, length-append}
+use Rattle.std.proofs.Common.{◌≡◌, ℕ, ◌+◌, ◌*◌, ◌^◌, ◌≤◌, List, [], ◌∷◌, ◌++◌, inl, inr, length, map, Option, None, Some, Bool, true, false, nat_lt, refl, ap, ◌∙◌, subst, arith, length-append}
 use Rattle.std.specs.List.{AllByRecursion}
 use Rattle.std.specs.List.Sorted.{IsPermutation}
 use Rattle.std.proofs.lemmas.List.{map-append}
@@ -8,11 +8,11 @@ use Rattle.gc_base.proofs.SetLaws.{AllByRecursion-append}
 use Rattle.gc_prod.specs.declared.moves.Pair.{Pair}
 use Rattle.gc_prod.specs.Leading.{pair, target_of}
 use Rattle.gc_prod.specs.Products.{Setting, moves}
-use Rattle.gc_search.specs.Arrivals.{FoundWalk, entry_of, arrivals_at, settled_at, passages, stays_at, extended, extensions, open_moves, TakesLeast, IsNew, IsOld, IsSeen, IsUnknown}
+use Rattle.gc_search.specs.Arrivals.{FoundWalk, entry_of, arrivals_at, settled_at, passages, stays_at, extended, extensions, open_moves, TakesLeast, IsNew, IsOld, IsSeen, IsUnknown, IsAsked, IsDone}
 use Rattle.gc_search.specs.Finding.{IsFollowed}
 use Rattle.gc_search.specs.Passages.{Has, Passage, IsOnward, IsCounted, Reach, IsFirstK}
 use Rattle.gc_search.proofs.Bridge.{contains_of, follows_push}
-use Rattle.gc_search.proofs.Flat.{node_of, IsPending, State, state_start, state_end, state_same, state_seen, state_full, state_settle, Has_from_map, Has_filtered}
+use Rattle.gc_search.proofs.Flat.{node_of, IsPending, State, state_start, state_end, state_same, state_seen, state_full, state_full_at, state_settle, Has_from_map, Has_filtered}
 use Rattle.gc_search.proofs.HeapLaws.{has_permuted}
 use Rattle.gc_search.proofs.Settle.{last_alone}
 use Rattle.gc_search.proofs.LoopLaws.{all_has, all_of_has, all_rest, costs_more}
@@ -46,6 +46,12 @@ module _ (setting : Setting) (source k : ℕ) where
 
   pub turn_end : (settled pending : List FoundWalk) → IsOn settled pending → pending ≡ [] → (q : Pair) → IsFirstK k (Reach (passages setting) (pair source 0) q) (settled_at settled q)
   turn_end settled pending on none = state_end setting source k settled (subst (State setting source k settled) none on.state)
+
+  pub turn_done : ((q : Pair) (m : Passage Pair) → Has (passages setting q) m → IsOnward node_of q m) → (target : Option Pair) (settled pending : List FoundWalk) → IsOn settled pending
+      → IsDone target settled k → (q : Pair) → IsAsked target q → IsFirstK k (Reach (passages setting) (pair source 0) q) (settled_at settled q)
+  turn_done costs None settled pending on done q asked = elim done [ ]
+  turn_done costs (Some target) settled pending on done q asked =
+      subst (λ (r : Pair). IsFirstK k (Reach (passages setting) (pair source 0) r) (settled_at settled r)) asked (state_full_at setting source k costs settled pending on.state target done)
 
   -- the extensions of a walk by some of its moves are passed by the run, and a move behind it
   followed_further : (settled : List FoundWalk) (c : FoundWalk) → IsFollowed setting source c

@@ -1,5 +1,5 @@
 -- Walks from the source that are found, each with the run by which it is.
-use Rattle.std.specs.Prelude.{length, suc, ◌≡◌, ◌⊎◌, ℕ, ◌+◌, ◌<◌, ◌≤◌, nat_lt, Bool, true, false, ◌&&◌, ◌==◌, List, [], ◌∷◌, ◌++◌, map}
+use Rattle.std.specs.Prelude.{length, suc, ◌≡◌, ◌⊎◌, ℕ, ◌+◌, ◌<◌, ◌≤◌, nat_lt, Bool, true, false, ◌&&◌, ◌==◌, List, [], ◌∷◌, ◌++◌, map, Option, Some, None}
 use Rattle.std.specs.List.{filter}
 use Rattle.gc_base.specs.declared.walk.Step.{Step}
 use Rattle.gc_prod.specs.declared.moves.Move.{Move}
@@ -96,3 +96,13 @@ IsUnknown false settled a = IsSeen settled a → ⊥
 
 abbrev pub IsFree : Bool → List FoundWalk → ℕ → FoundWalk → Type 0
 IsFree plain settled k a = (length (settled_at settled a.at) < k) × IsUnknown plain settled a
+
+-- a pair is asked for: the one that is, if one is, and else each
+abbrev pub IsAsked : Option Pair → Pair → Type 0
+IsAsked None q = Unit {0}
+IsAsked (Some target) q = target ≡ q
+
+-- k walks are settled at the pair that is asked for
+abbrev pub IsDone : Option Pair → List FoundWalk → ℕ → Type 0
+IsDone None settled k = ⊥
+IsDone (Some target) settled k = k ≤ length (settled_at settled target)

@@ -3,7 +3,7 @@ ghost use Rattle.std.specs.List.{AllByRecursion};
 ghost use Rattle.gc_prod.specs.declared.moves.Pair.{Pair};
 ghost use Rattle.gc_prod.specs.Leading.{pair};
 ghost use Rattle.gc_prod.specs.Products.{moves, moves_by};
-ghost use Rattle.gc_search.specs.Arrivals.{settled_at, passages, extensions, open_moves, IsFree, IsOld, IsSeen, IsUnknown, Told};
+ghost use Rattle.gc_search.specs.Arrivals.{settled_at, passages, extensions, open_moves, IsAsked, IsDone, IsFree, IsOld, IsSeen, IsUnknown, Told};
 ghost use Rattle.gc_search.specs.Counting.{degree, most_moves};
 ghost use Rattle.gc_search.specs.Finding.{IsFollowed};
 ghost use Rattle.gc_search.specs.Passages.{Has, IsCounted, IsOnward, Passage, Reach, IsFirstK};
@@ -112,26 +112,42 @@ fn is_new(settled: &Settled, next: &Arrival, k: u32, plain: bool) -> bool
     settled.count_at(&next.at) < k as usize && !is_known(settled, next, plain)
 }
 
-// Settles the first walks to each pair: takes the least one that is pending, and where fewer than k are
-// settled at its pair and it is none of these, settles it and adds its extensions. In a plain product
-// each move costs 1 for each edge.
+// Whether k walks are settled at the pair that is asked for, where one is.
+fn is_done(settled: &Settled, target: Option<Pair>, k: u32) -> bool
+    ensures { result ≡ true → IsDone target settled.now k }
+{
+    match target {
+        None => false,
+        Some(at) => settled.count_at(&at) >= k as usize,
+    }
+}
+
+// Settles the first walks to each pair, or until the first k to one pair are settled: takes the least one
+// that is pending, and where fewer than k are settled at its pair and it is none of these, settles it and
+// adds its extensions. In a plain product each move costs 1 for each edge.
 pub(crate) fn settle<L: Ledger>(
     alloc: Global,
     p: &Product,
     source: Id,
+    target: Option<Pair>,
     k: u32,
     plain: bool,
     steps: &mut Steps<L>,
 ) -> Result<Settled, Memory>
     requires costs { (q : Pair) (m : Passage Pair) → Has (passages p.now q) m → IsOnward (λ r. r.node) q m }
     requires plain { plain ≡ true → (q : Pair) (m : Passage Pair) → Has (passages p.now q) m → IsCounted m }
-    ensures first { IfOk result (λ settled. (q : Pair) → IsFirstK k (Reach (passages p.now) (pair source 0) q) (settled_at settled q)) }
+    ensures first { IfOk result (λ settled. (q : Pair) → IsAsked target q
+        → IsFirstK k (Reach (passages p.now) (pair source 0) q) (settled_at settled q)) }
     ensures followed { IfOk result (λ settled. AllByRecursion (IsFollowed p.now source) settled) }
+    ensures small { IfOk result (λ settled. (q : Pair) → length (settled_at settled q) ≤ k) }
     ensures few { steps.new ≤ steps.old + k * most_moves p.now }
 {
     let mut settled = Settled::of(alloc, p.nodes(), p.width())?;
     let mut pending = Pending::of(alloc, Arrival::start(alloc, source))?;
-    'turns: while let Some(next) = pending.take_least() {
+    'turns: while !is_done(&settled, target, k) {
+        let Some(next) = pending.take_least() else {
+            return Ok(settled);
+        };
         if is_new(&settled, &next, k, plain) {
             pending.add_all(&next, all_extended(alloc, p, &next, &settled, k, steps)?)?;
             settled.push(next)?;

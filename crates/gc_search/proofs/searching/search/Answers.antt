@@ -25,7 +25,7 @@ returns-clause-runs g c = λ target.
     let is_last : last ≡ p.machine.states - 1 = c.saturating_sub-last.ensures ∙ ap (λ n. n - 1) c.states.ensures in
     subst (λ n. AreFirst (IsRunTo p n) source target c.args.k (map (costed source) (arrivals_at walks (pair target last)))) is_last
     (first_walks p c.nodes-nodes.ensures.graph c.requires.segments c.nodes-nodes.ensures.network source c.requires.source c.args.k walks c.in_ok-walks.ensures.followed target last
-    (c.in_ok-walks.ensures.first (pair target last)))
+    (c.in_ok-walks.ensures.first (pair target last) tt))
 
 pub returns-clause-conform : goal.returns-clause-conform
 returns-clause-conform g c = λ tree parts is target.
@@ -40,15 +40,14 @@ returns-clause-conform g c = λ tree parts is target.
     first_other (IsRun p) (Conforms p.network tree) (run_conforms p law tree is laws.conform parts) (conforms_run p law tree is laws.pass) source target c.args.k those
     (subst (λ n. AreFirst (IsRunTo p n) source target c.args.k those) is_last
     (first_walks p c.nodes-nodes.ensures.graph c.requires.segments law source c.requires.source c.args.k walks c.in_ok-walks.ensures.followed target last
-    (c.in_ok-walks.ensures.first (pair target last))))
+    (c.in_ok-walks.ensures.first (pair target last) tt)))
 
 pub returns-clause-potentials : goal.returns-clause-potentials
 returns-clause-potentials g c = λ q.
     potential_is c.args.p.now c.nodes-nodes.ensures.graph c.requires.segments c.nodes-nodes.ensures.network c.args.source c.requires.source c.args.k c.requires.some c.in_ok-walks.walks q
-    (c.in_ok-walks.ensures.first q)
+    (c.in_ok-walks.ensures.first q tt)
 
 pub invariant_of-result : goal.invariant_of-result
 invariant_of-result g c = λ q.
     let walks = c.in_ok-walks.walks in
-    let first = c.in_ok-walks.ensures.first q in
-    omega (arith, first.at_most, length-map (arrivals_at walks q) entry_of, c.ranges.k.fits)
+    omega (arith, c.in_ok-walks.ensures.small q, length-map (arrivals_at walks q) entry_of, c.ranges.k.fits)

@@ -8,7 +8,7 @@ use Rattle.gc_prod.specs.Products.{moves}
 use Rattle.gc_search.specs.Arrivals.{FoundWalk, stays_at, extended, extensions, open_moves, IsNew}
 use Rattle.gc_search.specs.Counting.{asked, degree}
 use Rattle.gc_search.specs.Waiting.{waiting, IsBehind}
-use Rattle.gc_search.proofs.Turns.{IsOn, turn_start, turn_end, turn_small, turn_old, turn_unseen, turn_settles}
+use Rattle.gc_search.proofs.Turns.{IsOn, turn_start, turn_end, turn_done, turn_small, turn_old, turn_unseen, turn_settles}
 use Rattle.gc_search.proofs.WaitingLaws.{behind_all}
 use Rattle.gc_search.proofs.WorkLaws.{asked_most, asked_more, open_fewer}
 use Rattle.gc_search.proofs.settling.settle.Goals as goal
@@ -23,8 +23,16 @@ turns-init g c =
       few = omega arith;
     }
 
+pub returns-in_default-clause-first : goal.returns-in_default-clause-first
+returns-in_default-clause-first g c = λ q asked.
+    turn_end c.args.p.now c.args.source c.args.k c.turns.settled (waiting c.turns.pending) c.turns.invariant.on c.in_default.ensures.none q
+
 pub returns-clause-first : goal.returns-clause-first
-returns-clause-first g c = λ q. turn_end c.args.p.now c.args.source c.args.k c.turns.settled (waiting c.turns.pending) c.turns.invariant.on c.in_default.ensures.none q
+returns-clause-first g c = λ q asked.
+    turn_done c.args.p.now c.args.source c.args.k c.requires.costs c.args.target c.turns.settled (waiting c.turns.pending) c.turns.invariant.on (c.is_done.ensures c.turns-test.false) q asked
+
+pub returns-in_default-clause-few : goal.returns-in_default-clause-few
+returns-in_default-clause-few g c = omega (arith, c.turns.invariant.few, asked_most c.args.p.now c.args.k c.turns.settled c.turns.invariant.on.state.few)
 
 pub returns-clause-few : goal.returns-clause-few
 returns-clause-few g c = omega (arith, c.turns.invariant.few, asked_most c.args.p.now c.args.k c.turns.settled c.turns.invariant.on.state.few)
