@@ -56,7 +56,7 @@ pigeonholes {X = X} {Y = Y} R (x ∷ xs) ys apart each le y h =
     ]
 
 -- what is covered stays so at a greater cost
-covered_up : (k : ℕ) (xs : List Entry) (a b : Entry) → AtMost a b → a.edges ≡ b.edges → Covered k xs a → Covered k xs b
+pub covered_up : (k : ℕ) (xs : List Entry) (a b : Entry) → AtMost a b → a.edges ≡ b.edges → Covered k xs a → Covered k xs b
 covered_up k xs a b le e (Listed x h d c) = let n = at_most_same_walk a b le e in Listed x h (d ∙ e) (omega (arith, c, n))
 covered_up k xs a b le e (Past n all) = Past n (λ x h. before_at_most x a b (all x h) le)
 
@@ -129,6 +129,21 @@ distinct_one (z ∷ xs) x y d (inl h) (inr g) e = elim (d.0 y g (ap (λ (v : Ent
 distinct_one (z ∷ xs) x y d (inr h) (inl g) e = elim (d.0 x h (ap (λ (v : Entry). v.edges) g ∙ sym e)) [ ]
 distinct_one (z ∷ xs) x y d (inr h) (inr g) e = distinct_one xs x y d.1 h g e
 
+-- entries that rise, are reached and cover what is reached are the first k
+pub first_of : (k : ℕ) (R : Entry → Type 0) (xs : List Entry) → Distinct xs → length xs ≤ k → Rises xs → ((x : Entry) → Has xs x → R x) → ((e : Entry) → R e → Covered k xs e) → IsFirstK k R xs
+first_of k R xs dist few asc sound covered = record {
+  ascending = asc;
+  members = λ x h. (
+    sound x h,
+    λ c r. elim (covered (entry c x.edges) r) [
+      | Listed y g d n ↦ let same : x.cost ≡ y.cost = ap (λ (v : Entry). v.cost) (distinct_one xs x y dist h g (sym d)) in omega (arith, same, n)
+      | Past n b ↦ let l = before_same_walk x (entry c x.edges) (b x h) refl in omega (arith, l)
+    ],
+  );
+  at_most = few;
+  covers = covered;
+}
+
 module _ (P : Type 0) (passages : P → List (Passage P)) (source : P) (k : ℕ) (at : P → List Entry) where
   abbrev pub IsClosed : Type 0
   IsClosed = (p : P) (x : Entry) → Has (at p) x → (m : Passage P) → Has (passages p) m → Covered k (at m.to) (extend x m.cost m.edges)
@@ -144,17 +159,4 @@ module _ (P : Type 0) (passages : P → List (Passage P)) (source : P) (k : ℕ)
       → ((p : P) → Rises (at p)) → ((p : P) (x : Entry) → Has (at p) x → Reach passages source p x)
       → (q : P) → IsFirstK k (Reach passages source q) (at q)
   first_k dist few closed begun asc sound q =
-      let covered : (e : Entry) → Reach passages source q e → Covered k (at q) e = λ e r.
-      run_covered dist few closed r.0 source q (entry 0 []) e begun r.1 in
-      record {
-        ascending = asc q;
-        members = λ x h. (
-          sound q x h,
-          λ c r. elim (covered (entry c x.edges) r) [
-            | Listed y g d n ↦ let same : x.cost ≡ y.cost = ap (λ (v : Entry). v.cost) (distinct_one (at q) x y (dist q) h g (sym d)) in omega (arith, same, n)
-            | Past n b ↦ let l = before_same_walk x (entry c x.edges) (b x h) refl in omega (arith, l)
-          ],
-        );
-        at_most = few q;
-        covers = covered;
-      }
+      first_of k (Reach passages source q) (at q) (dist q) (few q) (asc q) (sound q) (λ e r. run_covered dist few closed r.0 source q (entry 0 []) e begun r.1)

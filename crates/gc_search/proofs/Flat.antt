@@ -1,18 +1,20 @@
 -- What is settled, in the order in which it was, and what is pending.
-use Rattle.std.proofs.Common.{◌≡◌, ℕ, ◌+◌, ◌<◌, ◌≤◌, ◌==◌, ◌&&◌, Bool, true, false, cond, List, [], ◌∷◌, ◌++◌, map, length, refl, sym, ap, ap₂, subst, ◌∙◌, arith, inl, inr, ◌⊎◌}
+use Rattle.std.proofs.Common.{◌≡◌, ℕ, ◌+◌, ◌≤◌, ◌==◌, ◌&&◌, nat_lt, Bool, true, false, cond, List, [], ◌∷◌, ◌++◌, map, length, refl, sym, ap, ap₂, subst, ◌∙◌, arith, inl, inr, ◌⊎◌}
 use Rattle.std.proofs.lemmas.Bool.{eq-eqb}
 use Rattle.std.proofs.lemmas.Bool.Decides.{nat_tests}
-use Rattle.std.proofs.lemmas.List.{append-nil, map-append}
+use Rattle.std.specs.List.{filter}
+use Rattle.std.proofs.lemmas.List.{append-nil, length-map, map-append}
 use Rattle.std.proofs.lemmas.List.Elements.{filter-append}
 use Rattle.gc_base.specs.declared.walk.Step.{Step}
 use Rattle.gc_prod.specs.declared.moves.Move.{Move}
 use Rattle.gc_prod.specs.declared.moves.Pair.{Pair}
-use Rattle.gc_prod.specs.Leading.{pair, steps_of}
+use Rattle.gc_prod.specs.Leading.{pair, target_of, steps_of}
 use Rattle.gc_prod.specs.Products.{Setting, moves}
-use Rattle.gc_search.specs.Arrivals.{FoundWalk, edges_along, entry_of, same_pair, arrivals_at, settled_at, passage, passages, stays_at, extended, extensions, TakesLeast, IsSeen}
-use Rattle.gc_search.specs.Entries.{Entry, entry, AtMost, extend, IsMoveCost}
-use Rattle.gc_search.specs.Passages.{Has, Passage, Reach, IsFirstK}
-use Rattle.gc_search.proofs.Settle.{Has_front, Inv, inv_start, inv_end, inv_same, seen_covered, full_covered, inv_drop, inv_settle}
+use Rattle.gc_search.specs.Arrivals.{FoundWalk, edges_along, entry_of, same_pair, arrivals_at, settled_at, passage, passages, stays_at, extended, extensions, open_moves, TakesLeast, IsSeen, IsNew}
+use Rattle.gc_search.specs.Entries.{Entry, entry, AtMostAt, extend}
+use Rattle.gc_search.specs.Passages.{Has, Passage, IsOnward, Reach, IsFirstK}
+use Rattle.gc_search.proofs.Order.{at_most_here, at_most_at_trans, at_most_at_extend}
+use Rattle.gc_search.proofs.Settle.{Has_front, Inv, IsDue, inv_start, inv_end, inv_full, inv_same, seen_covered, full_covered, inv_drop, inv_settle}
 
 eqb_same : (a b : ℕ) → (a == b) ≡ true → a ≡ b
 eqb_same a b h = grind (arith, nat_tests)
@@ -69,9 +71,38 @@ Has_from_map f [] y h = elim h [ ]
 Has_from_map f (x ∷ xs) y (inl e) = (x, inl refl, e)
 Has_from_map f (x ∷ xs) y (inr h) = let a = Has_from_map f xs y h in (a.0, inr a.1, a.2)
 
+-- a test picks an item out, or fails
+pub filter_or : {X : Type 0} (test : X → Bool) (xs : List X) (x : X) → Has xs x → (test x ≡ false) ⊎ Has (filter test xs) x
+filter_or test [] x h = elim h [ ]
+filter_or test (y ∷ xs) x (inl e) = subst (λ z. (test z ≡ false) ⊎ Has (filter test (y ∷ xs)) z) e (by (test y) refl)
+  where
+    by : (b : Bool) → test y ≡ b → (test y ≡ false) ⊎ Has (filter test (y ∷ xs)) y
+    by true d = inr (subst (λ c. Has (cond c (y ∷ filter test xs) (filter test xs)) y) (sym d) (inl refl))
+    by false d = inl d
+filter_or test (y ∷ xs) x (inr h) = elim (filter_or test xs x h) [ inl fails ↦ inl fails | inr g ↦ inr (by (test y) g) ]
+  where
+    by : (b : Bool) → Has (filter test xs) x → Has (cond b (y ∷ filter test xs) (filter test xs)) x
+    by true g = inr g
+    by false g = g
+
+pub Has_filtered : {X : Type 0} (test : X → Bool) (xs : List X) (x : X) → Has (filter test xs) x → Has xs x
+Has_filtered test [] x h = elim h [ ]
+Has_filtered test (y ∷ xs) x h = by (λ g. Has_filtered test xs x g) (test y) h
+  where
+    by : (Has (filter test xs) x → Has xs x) → (b : Bool) → Has (cond b (y ∷ filter test xs) (filter test xs)) x → Has (y ∷ xs) x
+    by next true (inl e) = inl e
+    by next true (inr g) = inr (next g)
+    by next false g = inr (next g)
+
+not_less : (a b : ℕ) → nat_lt a b ≡ false → b ≤ a
+not_less a b h = grind (arith, nat_tests)
+
 -- an extension is seen by the extension of its entry
 pub entry_extended : (setting : Setting) (c : FoundWalk) (m : Move) → entry_of (extended setting c m) ≡ extend (entry_of c) m.cost (edges_along (steps_of setting m))
 entry_extended setting c m = ap (λ (w : List ℕ). entry (c.cost + m.cost) w) (map-append (λ (s : Step). s.edge) c.steps (steps_of setting m))
+
+abbrev pub node_of : Pair → ℕ
+node_of q = q.node
 
 -- an entry is pending at a pair
 abbrev pub IsPending : List FoundWalk → Pair → Entry → Type 0
@@ -79,10 +110,10 @@ IsPending cs p e = (c : FoundWalk) × Has cs c × (c.at ≡ p) × (entry_of c �
 
 module _ (setting : Setting) (source : ℕ) (k : ℕ) where
   abbrev pub State : List FoundWalk → List FoundWalk → Type 0
-  State settled pending = Inv Pair (passages setting) (pair source 0) k (settled_at settled) (IsPending pending)
+  State settled pending = Inv Pair (passages setting) (pair source 0) k node_of (settled_at settled) (IsPending pending)
 
   pub state_start : State [] (stays_at source ∷ [])
-  state_start = inv_start Pair (passages setting) (pair source 0) k (IsPending (stays_at source ∷ [])) (stays_at source, inl refl, refl, refl)
+  state_start = inv_start Pair (passages setting) (pair source 0) k node_of (IsPending (stays_at source ∷ [])) (stays_at source, inl refl, refl, refl)
       (λ p e h. elim (h.1) [
         | inl d ↦ (sym (ap (λ (v : FoundWalk). v.at) d ∙ h.2), sym (ap entry_of d ∙ h.3))
         | inr g ↦ elim g [ ]
@@ -90,10 +121,14 @@ module _ (setting : Setting) (source : ℕ) (k : ℕ) where
 
   pub state_same : (settled xs ys : List FoundWalk) → ((x : FoundWalk) → Has xs x → Has ys x) → ((x : FoundWalk) → Has ys x → Has xs x) → State settled xs → State settled ys
   state_same settled xs ys there back s =
-      inv_same Pair (passages setting) (pair source 0) k (settled_at settled) (IsPending xs) (IsPending ys) s (λ p x h. (h.0, there h.0 h.1, h.2, h.3)) (λ p x h. (h.0, back h.0 h.1, h.2, h.3))
+      inv_same Pair (passages setting) (pair source 0) k node_of (settled_at settled) (IsPending xs) (IsPending ys) s (λ p x h. (h.0, there h.0 h.1, h.2, h.3)) (λ p x h. (h.0, back h.0 h.1, h.2, h.3))
 
   pub state_end : (settled : List FoundWalk) → State settled [] → (q : Pair) → IsFirstK k (Reach (passages setting) (pair source 0) q) (settled_at settled q)
-  state_end settled s = inv_end Pair (passages setting) (pair source 0) k (settled_at settled) (IsPending []) s (λ p e h. h.1)
+  state_end settled s = inv_end Pair (passages setting) (pair source 0) k node_of (settled_at settled) (IsPending []) s (λ p e h. h.1)
+
+  pub state_full_at : ((p : Pair) (m : Passage Pair) → Has (passages setting p) m → IsOnward node_of p m) → (settled cs : List FoundWalk) → State settled cs
+      → (q : Pair) → k ≤ length (settled_at settled q) → IsFirstK k (Reach (passages setting) (pair source 0) q) (settled_at settled q)
+  state_full_at costs settled cs s = inv_full Pair (passages setting) (pair source 0) k node_of costs (settled_at settled) (IsPending cs) s
 
   module _ (settled cs rest : List FoundWalk) (c : FoundWalk) (s : State settled cs) (t : TakesLeast cs c rest) where
     taken : IsPending cs c.at (entry_of c)
@@ -110,53 +145,69 @@ module _ (setting : Setting) (source : ℕ) (k : ℕ) where
 
     pub state_seen : IsSeen settled c → State settled rest
     state_seen seen =
-        inv_drop Pair (passages setting) (pair source 0) k (settled_at settled) (IsPending cs) (IsPending rest) s c.at (entry_of c)
-        (seen_covered Pair (passages setting) (pair source 0) k (settled_at settled) (IsPending cs) s c.at (entry_of c) taken seen.0 seen.1 seen.2) fewer kept
+        inv_drop Pair (passages setting) (pair source 0) k node_of (settled_at settled) (IsPending cs) (IsPending rest) s c.at (entry_of c)
+        (seen_covered Pair (passages setting) (pair source 0) k node_of (settled_at settled) (IsPending cs) s c.at (entry_of c) taken seen.0 seen.1 seen.2) fewer kept
 
-    pub state_full : (IsSeen settled c → ⊥) → k ≤ length (settled_at settled c.at) → State settled rest
-    state_full new full =
-        inv_drop Pair (passages setting) (pair source 0) k (settled_at settled) (IsPending cs) (IsPending rest) s c.at (entry_of c)
-        (full_covered Pair (passages setting) (pair source 0) k (settled_at settled) (IsPending cs) s c.at (entry_of c) taken (λ x h e. new (x, h, e)) full) fewer kept
+    pub state_full : k ≤ length (settled_at settled c.at) → State settled rest
+    state_full full =
+        inv_drop Pair (passages setting) (pair source 0) k node_of (settled_at settled) (IsPending cs) (IsPending rest) s c.at (entry_of c)
+        (full_covered Pair (passages setting) (pair source 0) k node_of (settled_at settled c.at) (entry_of c) (λ x h. at_most_here c.at.node x (entry_of c) (s.ordered c.at c.at x (entry_of c) h taken)) full) fewer kept
 
-    onward : (m : Passage Pair) → Has (passages setting c.at) m → IsPending (rest ++ extensions setting c (moves setting c.at.node c.at.state)) m.to (extend (entry_of c) m.cost m.edges)
-    onward m h =
-        let ms = moves setting c.at.node c.at.state in
-        let from = Has_from_map (passage setting) ms m h in
-        let x = extended setting c from.0 in (
-          x,
-          Has_later rest (extensions setting c ms) x (Has_map (extended setting c) ms from.0 from.1),
-          ap (λ (v : Passage Pair). v.to) from.2,
-          entry_extended setting c from.0 ∙ ap (λ (v : Passage Pair). extend (entry_of c) v.cost v.edges) from.2,
-        )
+    abbrev all_moves : List Move
+    all_moves = moves setting c.at.node c.at.state
 
-    came : (p : Pair) (x : Entry) → IsPending (rest ++ extensions setting c (moves setting c.at.node c.at.state)) p x
-        → IsPending cs p x ⊎ ((m : Passage Pair) × Has (passages setting c.at) m × (m.to ≡ p) × (extend (entry_of c) m.cost m.edges ≡ x))
-    came p x h =
-        let ms = moves setting c.at.node c.at.state in
-        elim (Has_cases rest (extensions setting c ms) h.0 h.1) [
-          | inl g ↦ inl (fewer p x (h.0, g, h.2, h.3))
-          | inr g ↦
-              let from = Has_from_map (extended setting c) ms h.0 g in
-              inr (
-                passage setting from.0,
-                Has_map (passage setting) ms from.0 from.1,
-                ap (λ (v : FoundWalk). v.at) from.2 ∙ h.2,
-                sym (entry_extended setting c from.0) ∙ (ap entry_of from.2 ∙ h.3),
-              )
-        ]
+    abbrev fresh : List FoundWalk
+    fresh = extensions setting c (open_moves settled k all_moves)
 
-    pub state_settle : ((p : Pair) (m : Passage Pair) → Has (passages setting p) m → IsMoveCost m.cost m.edges)
-        → (IsSeen settled c → ⊥) → length (settled_at settled c.at) < k → State (settled ++ c ∷ []) (rest ++ extensions setting c (moves setting c.at.node c.at.state))
-    state_settle costs new room =
-        let ms = moves setting c.at.node c.at.state in
-        inv_settle Pair (passages setting) (pair source 0) k costs (settled_at settled) (settled_at (settled ++ c ∷ [])) (IsPending cs) (IsPending (rest ++ extensions setting c ms)) c.at (entry_of c) s (record {
-          taken = taken;
-          least = λ p x h. subst (λ (e : Entry). AtMost (entry_of c) e) h.3 (t.least h.0 h.1);
-          new = λ x h e. new (x, h, e);
-          room = room;
-          pushed = settled_here settled c;
-          others = settled_elsewhere settled c;
-          kept = λ p x h. elim (kept p x h) [ inl g ↦ inl (g.0, Has_front rest (extensions setting c ms) g.0 g.1, g.2, g.3) | inr d ↦ inr d ];
-          from = came;
-          onward = onward;
-        })
+    module _ (costs : (p : Pair) (m : Passage Pair) → Has (passages setting p) m → IsOnward node_of p m) where
+      -- an extension is pending, or its pair has k walks that come before it
+      onward_by : (m : Move) → Has all_moves m → IsDue Pair (passages setting) (pair source 0) k node_of (settled_at settled) (IsPending (rest ++ fresh)) (target_of m) (extend (entry_of c) m.cost (edges_along (steps_of setting m)))
+      onward_by m h =
+          let x = passage setting m in
+          let q = target_of m in
+          let e = extend (entry_of c) x.cost x.edges in
+          let a = extended setting c m in
+          elim (filter_or (λ n. nat_lt (length (arrivals_at settled (target_of n))) k) all_moves m h) [
+            | inr g ↦ inr (a, Has_later rest fresh a (Has_map (extended setting c) (open_moves settled k all_moves) m g), refl, entry_extended setting c m)
+            | inl full ↦
+                let many : k ≤ length (arrivals_at settled q) = not_less (length (arrivals_at settled q)) k full in
+                let on = costs c.at x (Has_map (passage setting) all_moves m h) in
+                let further = at_most_at_extend c.at.node q.node (entry_of c) x.cost x.edges on.0 on.1 in
+                inl (full_covered Pair (passages setting) (pair source 0) k node_of (settled_at settled q) e
+                (λ y g. at_most_here q.node y e (at_most_at_trans q.node c.at.node q.node y (entry_of c) e (s.ordered q c.at y (entry_of c) g taken) further))
+                (omega (arith, many, length-map (arrivals_at settled q) entry_of)))
+          ]
+
+      onward : (m : Passage Pair) → Has (passages setting c.at) m → IsDue Pair (passages setting) (pair source 0) k node_of (settled_at settled) (IsPending (rest ++ fresh)) m.to (extend (entry_of c) m.cost m.edges)
+      onward m h =
+          let from = Has_from_map (passage setting) all_moves m h in
+          subst (λ (v : Passage Pair). IsDue Pair (passages setting) (pair source 0) k node_of (settled_at settled) (IsPending (rest ++ fresh)) v.to (extend (entry_of c) v.cost v.edges)) from.2 (onward_by from.0 from.1)
+
+      came : (p : Pair) (x : Entry) → IsPending (rest ++ fresh) p x → IsPending cs p x ⊎ ((m : Passage Pair) × Has (passages setting c.at) m × (m.to ≡ p) × (extend (entry_of c) m.cost m.edges ≡ x))
+      came p x h = elim (Has_cases rest fresh h.0 h.1) [
+        | inl g ↦ inl (fewer p x (h.0, g, h.2, h.3))
+        | inr g ↦
+            let from = Has_from_map (extended setting c) (open_moves settled k all_moves) h.0 g in
+            inr (
+              passage setting from.0,
+              Has_map (passage setting) all_moves from.0 (Has_filtered (λ n. nat_lt (length (arrivals_at settled (target_of n))) k) all_moves from.0 from.1),
+              ap (λ (v : FoundWalk). v.at) from.2 ∙ h.2,
+              sym (entry_extended setting c from.0) ∙ (ap entry_of from.2 ∙ h.3),
+            )
+      ]
+
+      pub state_settle : IsNew settled k c → State (settled ++ c ∷ []) (rest ++ fresh)
+      state_settle new =
+          inv_settle Pair (passages setting) (pair source 0) k node_of costs (settled_at settled) (settled_at (settled ++ c ∷ [])) (IsPending cs) (IsPending (rest ++ fresh)) c.at (entry_of c) s (record {
+            taken = taken;
+            least = λ p x h.
+                subst (λ (q : Pair). AtMostAt c.at.node (entry_of c) q.node x) h.2
+                (subst (λ (e : Entry). AtMostAt c.at.node (entry_of c) (h.0).at.node e) h.3 (t.least h.0 h.1));
+            new = λ x h e. new.1 (x, h, e);
+            room = new.0;
+            pushed = settled_here settled c;
+            others = settled_elsewhere settled c;
+            kept = λ p x h. elim (kept p x h) [ inl g ↦ inl (g.0, Has_front rest fresh g.0 g.1, g.2, g.3) | inr d ↦ inr d ];
+            from = came;
+            onward = onward;
+          })

@@ -1,5 +1,5 @@
 -- What a heap of walks hands out is a least walk.
-use Rattle.std.proofs.Common.{◌≡◌, ◌<◌, false, List, [], ◌∷◌, length, inl, inr, refl, sym, ap₂, subst, arith, Ordering, Less, Equal, Greater}
+use Rattle.std.proofs.Common.{◌≡◌, ℕ, ◌<◌, false, List, [], ◌∷◌, length, inl, inr, refl, sym, ap₂, subst, arith, Ordering, Less, Equal, Greater}
 use Rattle.std.specs.BinaryHeap.{IsUpperBound, lt_by_cmp}
 use Rattle.std.specs.Cmp.Lexicographic.{slice_cmp}
 use Rattle.std.specs.List.Sorted.{IsPermutation}
@@ -9,7 +9,7 @@ use Rattle.std.proofs.lemmas.List.{length-map}
 use Rattle.std.proofs.lemmas.List.Sorted.{IsPermutation-sym, length_permutation, Contains-permutation}
 use Rattle.gc_base.specs.declared.walk.Step.{Step}
 use Rattle.gc_search.specs.Arrivals.{FoundWalk, edges_along, entry_of, TakesLeast}
-use Rattle.gc_search.specs.Entries.{Entry, LexLess, Before, Cheaper, Shorter, Lower, AtMost, Strictly, Same}
+use Rattle.gc_search.specs.Entries.{Entry, LexLess, Lower, Strictly, Same, AtMostAt, Sooner, Nearer, Here}
 use Rattle.gc_search.specs.HeapOrder.{found_order, heap_order}
 use Rattle.gc_search.specs.Passages.{Has}
 use Rattle.gc_search.proofs.Bridge.{has_of, contains_of}
@@ -19,39 +19,38 @@ use Rattle.gc_search.proofs.Order.{entry_eq}
 pub has_permuted : {X : Type 0} (xs ys : List X) (x : X) → IsPermutation xs ys → Has xs x → Has ys x
 has_permuted xs ys x p h = has_of ys x (Contains-permutation xs ys x p (contains_of xs x h))
 
-order_cases : (a b : Entry) (r s t : Ordering) → MatchOrdering r (a.cost < b.cost) (a.cost ≡ b.cost) (b.cost < a.cost)
-    → MatchOrdering s (length a.edges < length b.edges) (length a.edges ≡ length b.edges) (length b.edges < length a.edges)
-    → (length a.edges ≡ length b.edges → MatchOrdering t (LexLess a.edges b.edges) (a.edges ≡ b.edges) (LexLess b.edges a.edges))
-    → MatchOrdering (ordering_then r (ordering_then s t)) (Before a b) (a ≡ b) (Before b a)
-order_cases a b Less s t c n l = Cheaper c
-order_cases a b Greater s t c n l = Cheaper c
-order_cases a b Equal Less t c n l = Shorter c n
-order_cases a b Equal Greater t c n l = Shorter (sym c) n
-order_cases a b Equal Equal Less c n l = Lower c n (l n)
-order_cases a b Equal Equal Equal c n l = entry_eq a b c (l n)
-order_cases a b Equal Equal Greater c n l = Lower (sym c) (sym n) (l n)
+-- what does not come after another in the order of walks is at most that
+not_after : (r s : ℕ) (a b : Entry) (o n p t : Ordering) → MatchOrdering o (b.cost < a.cost) (b.cost ≡ a.cost) (a.cost < b.cost)
+    → MatchOrdering n (length b.edges < length a.edges) (length b.edges ≡ length a.edges) (length a.edges < length b.edges) → MatchOrdering p (s < r) (s ≡ r) (r < s)
+    → (length b.edges ≡ length a.edges → MatchOrdering t (LexLess b.edges a.edges) (b.edges ≡ a.edges) (LexLess a.edges b.edges))
+    → is_lt (ordering_then o (ordering_then n (ordering_then p t))) ≡ false → AtMostAt r a s b
+not_after r s a b Less n p t c l m e h = cc
+not_after r s a b Greater n p t c l m e h = Sooner (inl c)
+not_after r s a b Equal Less p t c l m e h = cc
+not_after r s a b Equal Greater p t c l m e h = Sooner (inr (sym c, l))
+not_after r s a b Equal Equal Less t c l m e h = cc
+not_after r s a b Equal Equal Greater t c l m e h = Nearer (sym c, sym l) m
+not_after r s a b Equal Equal Equal Less c l m e h = cc
+not_after r s a b Equal Equal Equal Equal c l m e h = Here (sym m) (Same (entry_eq a b (sym c) (sym (e l))))
+not_after r s a b Equal Equal Equal Greater c l m e h = Here (sym m) (Strictly (Lower (sym c) (sym l) (e l)))
 
-found_ranked : (a b : FoundWalk) → MatchOrdering (found_order a b) (Before (entry_of a) (entry_of b)) (entry_of a ≡ entry_of b) (Before (entry_of b) (entry_of a))
-found_ranked a b =
-    let xs = edges_along a.steps in
-    let ys = edges_along b.steps in
-    let same : nat_cmp (length xs) (length ys) ≡ nat_cmp (length a.steps) (length b.steps) =
-    ap₂ nat_cmp (length-map a.steps (λ (s : Step). s.edge)) (length-map b.steps (λ (s : Step). s.edge)) in
-    subst (λ s. MatchOrdering (ordering_then (nat_cmp a.cost b.cost) (ordering_then s (slice_cmp nat_cmp xs ys))) (Before (entry_of a) (entry_of b)) (entry_of a ≡ entry_of b) (Before (entry_of b) (entry_of a))) same
-    (order_cases (entry_of a) (entry_of b) (nat_cmp a.cost b.cost) (nat_cmp (length xs) (length ys)) (slice_cmp nat_cmp xs ys)
-    (ranked a.cost b.cost (nat_cmp a.cost b.cost) refl) (ranked (length xs) (length ys) (nat_cmp (length xs) (length ys)) refl) (lex_ranked xs ys))
-
-not_after : (a b : Entry) (o : Ordering) → MatchOrdering o (Before b a) (b ≡ a) (Before a b) → is_lt o ≡ false → AtMost a b
-not_after a b Less m h = cc
-not_after a b Equal m h = Same (sym m)
-not_after a b Greater m h = Strictly m
+at_most_of : (a b : FoundWalk) → is_lt (found_order b a) ≡ false → AtMostAt a.at.node (entry_of a) b.at.node (entry_of b)
+at_most_of a b h =
+    let xs = edges_along b.steps in
+    let ys = edges_along a.steps in
+    let same : nat_cmp (length b.steps) (length a.steps) ≡ nat_cmp (length xs) (length ys) =
+    sym (ap₂ nat_cmp (length-map b.steps (λ (s : Step). s.edge)) (length-map a.steps (λ (s : Step). s.edge))) in
+    not_after a.at.node b.at.node (entry_of a) (entry_of b) (nat_cmp b.cost a.cost) (nat_cmp (length xs) (length ys)) (nat_cmp b.at.node a.at.node) (slice_cmp nat_cmp xs ys)
+    (ranked b.cost a.cost (nat_cmp b.cost a.cost) refl) (ranked (length xs) (length ys) (nat_cmp (length xs) (length ys)) refl)
+    (ranked b.at.node a.at.node (nat_cmp b.at.node a.at.node) refl) (lex_ranked xs ys)
+    (subst (λ n. is_lt (ordering_then (nat_cmp b.cost a.cost) (ordering_then n (ordering_then (nat_cmp b.at.node a.at.node) (slice_cmp nat_cmp xs ys)))) ≡ false) same h)
 
 pub takes_least : (before after : List FoundWalk) (x : FoundWalk) → IsPermutation before (x ∷ after) → IsUpperBound heap_order x before → TakesLeast before x after
 takes_least before after x p bound =
     let back = IsPermutation-sym before (x ∷ after) p in
     record {
       there = has_permuted (x ∷ after) before x back (inl refl);
-      least = λ y h. not_after (entry_of x) (entry_of y) (found_order y x) (found_ranked y x) (all_has (λ (v : FoundWalk). lt_by_cmp heap_order x v ≡ false) before y bound h);
+      least = λ y h. at_most_of x y (all_has (λ (v : FoundWalk). lt_by_cmp heap_order x v ≡ false) before y bound h);
       kept = λ y h. elim (has_permuted before (x ∷ after) y p h) [ inl e ↦ inr e | inr g ↦ inl g ];
       from = λ y h. has_permuted (x ∷ after) before y back (inr h);
       shorter = let n = length_permutation before (x ∷ after) p in omega (arith, n);

@@ -1,14 +1,15 @@
 pub mod Bridge
-pub mod ChainLaws
+pub mod BundleLaws
 pub mod ConformLaws
 pub mod First
 pub mod FirstLaws
 pub mod Flat
 pub mod HeapLaws
-pub mod KeyLaws
 pub mod LoopLaws
 pub mod Order
+pub mod PlaceLaws
 pub mod Settle
 pub mod Turns
+pub mod WaitingLaws
 pub mod WalkFacts
 pub mod WorkLaws

@@ -1,20 +1,15 @@
 -- What the small functions of the search are told by, and the steps of their loops.
-use Rattle.std.proofs.Common.{◌≡◌, ℕ, zero, suc, ◌<◌, ◌≤◌, Bool, true, false, cond, List, [], ◌∷◌, ◌++◌, map, length, take, drop, get_or, None, refl, sym, ap, ◌∙◌, subst, arith, inl, inr, ◌⊎◌, Ordering, Less, Equal, Greater}
+use Rattle.std.proofs.Common.{◌≡◌, ℕ, zero, suc, ◌+◌, ◌<◌, ◌≤◌, ◌==◌, false, List, [], ◌∷◌, map, length, drop, Some, refl, sym, ap, ◌∙◌, subst, arith, inl, inr, Ordering, Less, Equal, Greater}
 use Rattle.std.specs.Ordering.{MatchOrdering, nat_cmp, is_eq, ordering_then}
 use Rattle.std.specs.Cmp.Lexicographic.{slice_cmp}
+use Rattle.std.proofs.lemmas.Bool.Decides.{nat_tests}
 use Rattle.std.proofs.lemmas.Cmp.{ranked}
-use Rattle.std.proofs.lemmas.List.{append-nil}
 use Rattle.std.specs.List.{AllByRecursion, slice_get}
 use Rattle.gc_base.proofs.Search.{AllByRecursion-weaker}
-use Rattle.gc_prod.specs.declared.moves.Move.{Move}
-use Rattle.gc_prod.specs.Products.{Setting}
-use Rattle.gc_prod.specs.declared.moves.Pair.{Pair}
-use Rattle.gc_search.specs.Arrivals.{FoundWalk, edges_along, entry_of, same_pair, arrivals_at, settled_at, extensions, TakesLeast, IsSeen, AreSame, Told}
-use Rattle.gc_search.specs.Chains.{IsAt}
+use Rattle.gc_prod.proofs.HopLists.{left_at}
+use Rattle.gc_search.specs.Arrivals.{FoundWalk, edges_along, entry_of, TakesLeast, Told}
 use Rattle.gc_search.specs.Entries.{Entry, LexLess}
 use Rattle.gc_search.specs.Passages.{Has}
-use Rattle.gc_search.proofs.Flat.{same_itself, settled_here, settled_elsewhere}
-use Rattle.gc_search.proofs.Settle.{Has_pushed}
 
 lex_then : (x y : ℕ) (xs ys : List ℕ) (r o : Ordering) → MatchOrdering r (x < y) (x ≡ y) (y < x) → MatchOrdering o (LexLess xs ys) (xs ≡ ys) (LexLess ys xs)
     → MatchOrdering (ordering_then r o) (LexLess (x ∷ xs) (y ∷ ys)) ((x ∷ xs) ≡ (y ∷ ys)) (LexLess (y ∷ ys) (x ∷ xs))
@@ -45,52 +40,32 @@ eq_told [] (y ∷ ys) = λ d. cc
 eq_told (x ∷ xs) [] = λ d. cc
 eq_told (x ∷ xs) (y ∷ ys) = eq_then x y xs ys (nat_cmp x y) (slice_cmp nat_cmp xs ys) (ranked x y (nat_cmp x y) refl) (eq_told xs ys)
 
-pub at_from_read : {X : Type 0} (xs : List X) (i : ℕ) (x : X) → i < length xs → x ≡ get_or xs i x → IsAt xs i x
-at_from_read [] i x l e = let f : ⊥ = omega (arith, l) in elim f [ ]
-at_from_read (y ∷ ys) zero x l e = sym e
-at_from_read (y ∷ ys) (suc i) x l e = at_from_read ys i x (omega (arith, l)) e
+pub differ : (a b : ℕ) → (a ≡ b → ⊥) → (a == b) ≡ false
+differ a b h = grind (arith, nat_tests)
 
-pub take_next : {X : Type 0} (xs : List X) (i : ℕ) (x : X) → IsAt xs i x → take (suc i) xs ≡ take i xs ++ x ∷ []
-take_next [] i x h = elim h [ ]
-take_next (y ∷ xs) zero x h = ap (λ v. v ∷ []) h
-take_next (y ∷ xs) (suc i) x h = ap (λ v. y ∷ v) (take_next xs i x h)
+-- the walks at a pair that have the edges of a walk
+abbrev pub HasEdges : List FoundWalk → FoundWalk → Type 0
+HasEdges some a = (x : Entry) × Has (map entry_of some) x × (x.edges ≡ edges_along a.steps)
 
-pub seen_cases : (xs : List FoundWalk) (x c : FoundWalk) → IsSeen (xs ++ x ∷ []) c → IsSeen xs c ⊎ ((x.at ≡ c.at) × (edges_along x.steps ≡ edges_along c.steps))
-seen_cases xs x c s = elim (settled_elsewhere xs x c.at) [
-  | inl a ↦ inl (s.0, subst (λ v. Has v s.0) a s.1, s.2)
-  | inr d ↦
-      let a : settled_at (xs ++ x ∷ []) c.at ≡ settled_at xs c.at ++ (entry_of x) ∷ [] =
-      subst (λ v. settled_at (xs ++ x ∷ []) v ≡ settled_at xs v ++ (entry_of x) ∷ []) d (settled_here xs x) in
-      elim (Has_pushed (settled_at xs c.at) (entry_of x) s.0 (subst (λ v. Has v s.0) a s.1)) [
-        | inl g ↦ inl (s.0, g, s.2)
-        | inr e ↦ inr (d, ap (λ (v : Entry). v.edges) e ∙ s.2)
-      ]
-]
+pub edges_there : (some : List FoundWalk) (j : ℕ) (x a : FoundWalk) → slice_get some j ≡ Some x → edges_along x.steps ≡ edges_along a.steps → HasEdges some a
+edges_there [] j x a h d = cc
+edges_there (y ∷ some) zero x a h d = let e : y ≡ x = cc in (entry_of x, inl (ap entry_of e), d)
+edges_there (y ∷ some) (suc j) x a h d = let s = edges_there some j x a h d in (s.0, inr s.1, s.2)
 
-seen_first : (y x c : FoundWalk) (xs : List FoundWalk) → y ≡ x → x.at ≡ c.at → Has (settled_at (y ∷ xs) c.at) (entry_of x)
-seen_first y x c xs e d =
-    let b : same_pair y.at c.at ≡ true = subst (λ (q : Pair). same_pair y.at q ≡ true) (ap (λ (v : FoundWalk). v.at) e ∙ d) (same_itself y.at) in
-    subst (λ t. Has (map entry_of (cond t (y ∷ arrivals_at xs c.at) (arrivals_at xs c.at))) (entry_of x)) (sym b) (inl (ap entry_of e))
+-- another walk goes by
+pub edges_later : (some : List FoundWalk) (j : ℕ) (x a : FoundWalk) → slice_get some j ≡ Some x → (edges_along x.steps ≡ edges_along a.steps → ⊥) → HasEdges (drop j some) a → HasEdges (drop (j + 1) some) a
+edges_later some j x a h other s =
+    let first : HasEdges (x ∷ drop (j + 1) some) a = subst (λ (l : List FoundWalk). HasEdges l a) (left_at some j x h) s in
+    elim first.1 [
+      | inl e ↦ elim (other (ap (λ (v : Entry). v.edges) e ∙ first.2)) [ ]
+      | inr g ↦ (first.0, g, first.2)
+    ]
 
-seen_later : (b : Bool) (y : FoundWalk) (ys : List FoundWalk) (x : Entry) → Has (map entry_of ys) x → Has (map entry_of (cond b (y ∷ ys) ys)) x
-seen_later true y ys x h = inr h
-seen_later false y ys x h = h
-
-pub seen_yes : (xs : List FoundWalk) (i : ℕ) (x c : FoundWalk) → i < length xs → x ≡ get_or xs i x → AreSame x c → IsSeen xs c
-seen_yes [] i x c l e d = let f : ⊥ = omega (arith, l) in elim f [ ]
-seen_yes (y ∷ xs) zero x c l e d = (entry_of x, seen_first y x c xs (sym e) d.0, d.1)
-seen_yes (y ∷ xs) (suc i) x c l e d = let s = seen_yes xs i x c (omega (arith, l)) e d in (s.0, seen_later (same_pair y.at c.at) y (arrivals_at xs c.at) s.0 s.1, s.2)
-
--- past the last move there is no extension left
-none_left : {X : Type 0} (xs : List X) (i : ℕ) → slice_get xs i ≡ None → drop i xs ≡ []
-none_left [] zero h = refl
-none_left [] (suc i) h = refl
-none_left (x ∷ xs) zero h = cc
-none_left (x ∷ xs) (suc i) h = none_left xs i h
-
-pub extensions_end : (setting : Setting) (c : FoundWalk) (ms : List Move) (i : ℕ) (before whole : List FoundWalk) → slice_get ms i ≡ None
-    → before ++ extensions setting c (drop i ms) ≡ whole → before ≡ whole
-extensions_end setting c ms i before whole none h = sym (append-nil before) ∙ (sym (ap (λ (l : List Move). before ++ extensions setting c l) (none_left ms i none)) ∙ h)
+pub edges_none : (some : List FoundWalk) (j : ℕ) (a : FoundWalk) → length some ≤ j → HasEdges (drop j some) a → ⊥
+edges_none [] zero a le s = s.1
+edges_none [] (suc j) a le s = s.1
+edges_none (y ∷ some) zero a le s = omega (arith, le)
+edges_none (y ∷ some) (suc j) a le s = edges_none some j a (omega (arith, le)) s
 
 pub all_has : {X : Type 0} (P : X → Type 0) (xs : List X) (x : X) → AllByRecursion P xs → Has xs x → P x
 all_has P [] x all h = elim h [ ]

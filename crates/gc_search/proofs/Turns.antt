@@ -1,20 +1,25 @@
 -- The turns of the search: one that settles the least walk that is pending, and two that drop it.
-use Rattle.std.proofs.Common.{◌≡◌, ℕ, ◌+◌, ◌*◌, ◌^◌, ◌<◌, ◌≤◌, List, [], ◌∷◌, ◌++◌, length, refl, subst, arith, length-append}
+use Rattle.std.proofs.Common.{◌≡◌, ℕ, ◌+◌, ◌*◌, ◌^◌, ◌≤◌, List, [], ◌∷◌, ◌++◌, inl, inr, length, map, Option, None, Some, Bool, true, false, nat_lt, refl, ap, ◌∙◌, subst, arith, length-append}
 use Rattle.std.specs.List.{AllByRecursion}
 use Rattle.std.specs.List.Sorted.{IsPermutation}
+use Rattle.std.proofs.lemmas.List.{map-append}
 use Rattle.std.proofs.lemmas.List.Sorted.{IsPermutation-sym}
 use Rattle.gc_base.proofs.SetLaws.{AllByRecursion-append}
 use Rattle.gc_prod.specs.declared.moves.Pair.{Pair}
-use Rattle.gc_prod.specs.Leading.{pair}
+use Rattle.gc_prod.specs.Leading.{pair, target_of}
 use Rattle.gc_prod.specs.Products.{Setting, moves}
-use Rattle.gc_search.specs.Arrivals.{FoundWalk, settled_at, passages, stays_at, extended, extensions, TakesLeast, IsSeen}
-use Rattle.gc_search.specs.Entries.{IsMoveCost}
+use Rattle.gc_search.specs.Arrivals.{FoundWalk, entry_of, arrivals_at, settled_at, passages, stays_at, extended, extensions, open_moves, TakesLeast, IsNew, IsOld, IsSeen, IsUnknown, IsAsked, IsDone}
 use Rattle.gc_search.specs.Finding.{IsFollowed}
-use Rattle.gc_search.specs.Passages.{Has, Passage, Reach, IsFirstK}
+use Rattle.gc_search.specs.Passages.{Has, Passage, IsOnward, IsCounted, Reach, IsFirstK}
 use Rattle.gc_search.proofs.Bridge.{contains_of, follows_push}
-use Rattle.gc_search.proofs.Flat.{State, state_start, state_end, state_same, state_seen, state_full, state_settle, Has_from_map}
+use Rattle.gc_search.proofs.Flat.{node_of, IsPending, State, state_start, state_end, state_same, state_seen, state_full, state_full_at, state_settle, Has_from_map, Has_filtered}
 use Rattle.gc_search.proofs.HeapLaws.{has_permuted}
+use Rattle.gc_search.proofs.Settle.{last_alone}
 use Rattle.gc_search.proofs.LoopLaws.{all_has, all_of_has, all_rest, costs_more}
+
+last_of : (x : FoundWalk) (xs : List FoundWalk) → (before : List FoundWalk) × (y : FoundWalk) × ((x ∷ xs) ≡ before ++ y ∷ [])
+last_of x [] = ([], x, refl)
+last_of x (z ∷ xs) = let l = last_of z xs in (x ∷ l.0, l.1, ap (λ v. x ∷ v) l.2)
 
 module _ (setting : Setting) (source k : ℕ) where
   -- what holds before and after each turn: each that is pending costs at most so much for each that is settled
@@ -35,21 +40,30 @@ module _ (setting : Setting) (source k : ℕ) where
         due = all_of_has (IsFollowed setting source) ys (λ x h. all_has (IsFollowed setting source) xs x on.due (back x h));
       }
 
-  pub turn_start : (pending : List FoundWalk) → IsPermutation (stays_at source ∷ []) pending → IsOn [] pending
-  turn_start pending p =
-      permuted [] (stays_at source ∷ []) pending p (record { state = state_start setting source k; small = (omega arith, tt); found = tt; due = ((refl, refl, refl), tt) })
+  pub turn_start : (pending : List FoundWalk) → stays_at source ∷ [] ≡ pending → IsOn [] pending
+  turn_start pending same =
+      subst (IsOn []) same (record { state = state_start setting source k; small = (omega arith, tt); found = tt; due = ((refl, refl, refl), tt) })
 
   pub turn_end : (settled pending : List FoundWalk) → IsOn settled pending → pending ≡ [] → (q : Pair) → IsFirstK k (Reach (passages setting) (pair source 0) q) (settled_at settled q)
   turn_end settled pending on none = state_end setting source k settled (subst (State setting source k settled) none on.state)
 
-  -- the extensions of a walk are passed by the run, and a move behind it
-  followed_further : (c : FoundWalk) → IsFollowed setting source c → AllByRecursion (IsFollowed setting source) (extensions setting c (moves setting c.at.node c.at.state))
-  followed_further c h =
+  pub turn_done : ((q : Pair) (m : Passage Pair) → Has (passages setting q) m → IsOnward node_of q m) → (target : Option Pair) (settled pending : List FoundWalk) → IsOn settled pending
+      → IsDone target settled k → (q : Pair) → IsAsked target q → IsFirstK k (Reach (passages setting) (pair source 0) q) (settled_at settled q)
+  turn_done costs None settled pending on done q asked = elim done [ ]
+  turn_done costs (Some target) settled pending on done q asked =
+      subst (λ (r : Pair). IsFirstK k (Reach (passages setting) (pair source 0) r) (settled_at settled r)) asked (state_full_at setting source k costs settled pending on.state target done)
+
+  -- the extensions of a walk by some of its moves are passed by the run, and a move behind it
+  followed_further : (settled : List FoundWalk) (c : FoundWalk) → IsFollowed setting source c
+      → AllByRecursion (IsFollowed setting source) (extensions setting c (open_moves settled k (moves setting c.at.node c.at.state)))
+  followed_further settled c h =
       let ms = moves setting c.at.node c.at.state in
-      all_of_has (IsFollowed setting source) (extensions setting c ms)
+      let some = open_moves settled k ms in
+      all_of_has (IsFollowed setting source) (extensions setting c some)
       (λ x g.
-      let from = Has_from_map (extended setting c) ms x g in
-      subst (IsFollowed setting source) from.2 (follows_push setting c.run (pair source 0) c.at c.steps c.cost from.0 h (contains_of ms from.0 from.1)))
+      let from = Has_from_map (extended setting c) some x g in
+      let among = Has_filtered (λ m. nat_lt (length (arrivals_at settled (target_of m))) k) ms from.0 from.1 in
+      subst (IsFollowed setting source) from.2 (follows_push setting c.run (pair source 0) c.at c.steps c.cost from.0 h (contains_of ms from.0 among)))
 
   module _ (settled cs rest : List FoundWalk) (c : FoundWalk) (on : IsOn settled cs) (t : TakesLeast cs c rest) where
     pub turn_small : c.cost ≤ length settled * 2 ^ 64
@@ -63,26 +77,37 @@ module _ (setting : Setting) (source k : ℕ) where
       due = all_rest (IsFollowed setting source) cs rest c t on.due;
     }
 
-    pub turn_seen : IsSeen settled c → IsOn settled rest
-    turn_seen seen = dropped (state_seen setting source k settled cs rest c on.state t seen)
+    pub turn_old : IsOld settled k c → IsOn settled rest
+    turn_old (inl full) = dropped (state_full setting source k settled cs rest c on.state t full)
+    turn_old (inr seen) = dropped (state_seen setting source k settled cs rest c on.state t seen)
 
-    pub turn_full : (count : ℕ) → (IsSeen settled c → ⊥) → count ≡ length (settled_at settled c.at) → k ≤ count → IsOn settled rest
-    turn_full count new is full = dropped (state_full setting source k settled cs rest c on.state t new (omega (arith, is, full)))
+    -- a walk that may be new is so
+    pub turn_unseen : (plain : Bool) → (plain ≡ true → (q : Pair) (m : Passage Pair) → Has (passages setting q) m → IsCounted m) → IsUnknown plain settled c → IsSeen settled c → ⊥
+    turn_unseen false each new seen = new seen
+    turn_unseen true each new seen = by (arrivals_at settled c.at) refl
+      where
+        by : (found : List FoundWalk) → arrivals_at settled c.at ≡ found → ⊥
+        by [] e = subst (λ (l : List FoundWalk). Has (map entry_of l) seen.0) e seen.1
+        by (x ∷ rest) e =
+            let l = last_of x rest in
+            let is : arrivals_at settled c.at ≡ l.0 ++ l.1 ∷ [] = e ∙ l.2 in
+            last_alone Pair (passages setting) (pair source 0) k node_of (each refl) (settled_at settled) (IsPending cs) on.state c.at (entry_of c) (c, t.there, refl, refl)
+            (map entry_of l.0) (entry_of l.1) (ap (map entry_of) is ∙ map-append entry_of l.0 (l.1 ∷ [])) (new l.0 l.1 is) seen.0 seen.1 seen.2
 
-    pub turn_settles : ((q : Pair) (m : Passage Pair) → Has (passages setting q) m → IsMoveCost m.cost m.edges) → (count : ℕ) → (IsSeen settled c → ⊥)
-        → count ≡ length (settled_at settled c.at) → count < k → (after : List FoundWalk) → IsPermutation (rest ++ extensions setting c (moves setting c.at.node c.at.state)) after
-        → AllByRecursion (λ a. a.cost ≤ c.cost + 2 ^ 64) (extensions setting c (moves setting c.at.node c.at.state))
+    pub turn_settles : ((q : Pair) (m : Passage Pair) → Has (passages setting q) m → IsOnward node_of q m) → IsNew settled k c
+        → (after : List FoundWalk) → IsPermutation (rest ++ extensions setting c (open_moves settled k (moves setting c.at.node c.at.state))) after
+        → AllByRecursion (λ a. a.cost ≤ c.cost + 2 ^ 64) (extensions setting c (open_moves settled k (moves setting c.at.node c.at.state)))
         → IsOn (settled ++ c ∷ []) after
-    turn_settles costs count new is room after grown small =
-        let next = extensions setting c (moves setting c.at.node c.at.state) in
+    turn_settles costs new after grown small =
+        let next = extensions setting c (open_moves settled k (moves setting c.at.node c.at.state)) in
         let most = length (settled ++ c ∷ []) * 2 ^ 64 in
         let least : length settled * 2 ^ 64 ≤ most = omega (arith, length-append settled (c ∷ [])) in
         let room_for : c.cost + 2 ^ 64 ≤ most = omega (arith, length-append settled (c ∷ []), turn_small) in
         let all = all_rest (λ (a : FoundWalk). a.cost ≤ length settled * 2 ^ 64) cs rest c t on.small in
         let is_followed = all_has (IsFollowed setting source) cs c on.due t.there in
         permuted (settled ++ c ∷ []) (rest ++ next) after grown (record {
-          state = state_settle setting source k settled cs rest c on.state t costs new (omega (arith, is, room));
+          state = state_settle setting source k settled cs rest c on.state t costs new;
           small = AllByRecursion-append (λ (a : FoundWalk). a.cost ≤ most) rest next (costs_more (length settled * 2 ^ 64) most rest least all) (costs_more (c.cost + 2 ^ 64) most next room_for small);
           found = AllByRecursion-append (IsFollowed setting source) settled (c ∷ []) on.found (is_followed, tt);
-          due = AllByRecursion-append (IsFollowed setting source) rest next (all_rest (IsFollowed setting source) cs rest c t on.due) (followed_further c is_followed);
+          due = AllByRecursion-append (IsFollowed setting source) rest next (all_rest (IsFollowed setting source) cs rest c t on.due) (followed_further settled c is_followed);
         })

@@ -1,5 +1,5 @@
 -- Walks of runs are walks of the graph; of those with one start, the edges tell the walk.
-use Rattle.std.proofs.Common.{◌≡◌, ℕ, zero, suc, ◌<◌, Bool, true, false, ◌||◌, ◌&&◌, ◌==◌, List, [], ◌∷◌, ◌++◌, ◌⊎◌, inl, inr, refl, sym, ap, subst, ◌∙◌, arith}
+use Rattle.std.proofs.Common.{◌≡◌, ℕ, zero, suc, ◌<◌, Bool, true, false, ◌||◌, ◌&&◌, ◌==◌, List, [], ◌∷◌, ◌++◌, ◌⊎◌, inl, inr, length, refl, sym, ap, subst, ◌∙◌, arith}
 use Rattle.std.specs.declared.cmp.Ordering.TheVariants.{Less}
 use Rattle.std.specs.List.{Contains, list_any}
 use Rattle.std.specs.Ordering.{nat_cmp}
@@ -26,7 +26,7 @@ use Rattle.gc_prod.proofs.Members.{here, there}
 use Rattle.gc_prod.proofs.Networks.{among_all}
 use Rattle.gc_search.specs.Arrivals.{edges_along, passage, passages}
 use Rattle.gc_search.specs.Entries.{IsMoveCost}
-use Rattle.gc_search.specs.Passages.{Has, Passage}
+use Rattle.gc_search.specs.Passages.{Has, Passage, IsOnward, IsCounted}
 use Rattle.gc_search.proofs.Bridge.{contains_of}
 use Rattle.gc_search.proofs.Flat.{Has_from_map}
 
@@ -188,6 +188,10 @@ module _ (network : Network) (segments : AreSegments network.graph network.segme
       let is = among_all (IsSegment network.graph) network.segments (record { view = v; walk = w; cost = c }) segments g in
       inl (omega (arith, is.costs))
 
+no_steps : (steps : List Step) → edges_along steps ≡ [] → steps ≡ []
+no_steps [] e = refl
+no_steps (s ∷ steps) e = cc
+
 module _ (setting : Setting) (segments : AreSegments setting.network.graph setting.network.segments) where
   -- a run passes a walk of the graph
   pub run_walks : (n from to : ℕ) (w : Walk) (c : ℕ) → RunsIn setting.network setting.machine.transitions n from to w c → are_steps_from setting.network.graph.edges w.start w.steps ≡ true
@@ -199,13 +203,40 @@ module _ (setting : Setting) (segments : AreSegments setting.network.graph setti
       subst (λ (v : Walk). are_steps_from edges v.start v.steps ≡ true) (sym run.whole)
       (steps_both edges run.first.start run.first.steps run.second.steps first (subst (λ s. are_steps_from edges s run.second.steps ≡ true) (sym run.meets) second))
 
-  -- a move costs at least 1, or costs nothing and passes no edge
-  pub passage_costs : (q : Pair) (x : Passage Pair) → Has (passages setting q) x → IsMoveCost x.cost x.edges
-  passage_costs q x h =
+  -- a move costs at least 1, or it costs nothing, passes no edge and stays at its node
+  pub passage_onward : (q : Pair) (x : Passage Pair) → Has (passages setting q) x → IsOnward (λ r. r.node) q x
+  passage_onward q x h =
       let from = Has_from_map (passage setting) (moves setting q.node q.state) x h in
       let by = by_move setting q.node q.state from.0 (contains_of (moves setting q.node q.state) from.0 from.1) in
       let first = hop_goes setting.network by.transition.on by.hop by.along in
       let cost : by.hop.cost ≡ x.cost = ap (λ (k : Move). k.cost) by.is ∙ ap (λ (y : Passage Pair). y.cost) from.2 in
       let edges : edges_of first.walk ≡ x.edges = ap edges_along (first.steps ∙ ap (steps_of setting) by.is) ∙ ap (λ (y : Passage Pair). y.edges) from.2 in
-      subst (λ (l : List ℕ). IsMoveCost x.cost l) edges
-      (subst (λ n. IsMoveCost n (edges_of first.walk)) cost (goes_cost setting.network segments by.transition.on first.walk by.hop.cost first.goes))
+      let goes = goes_cost setting.network segments by.transition.on first.walk by.hop.cost first.goes in
+      let starts : first.walk.start ≡ q.node = first.starts ∙ by.starts in
+      let ends : end_of_steps first.walk.start first.walk.steps ≡ x.to.node =
+      first.ends ∙ (ap (λ (k : Move). k.node) by.is ∙ ap (λ (y : Passage Pair). y.to.node) from.2) in (
+        subst (λ (l : List ℕ). IsMoveCost x.cost l) edges (subst (λ n. IsMoveCost n (edges_of first.walk)) cost goes),
+        λ free. elim goes [
+          | inl some ↦ absurd (omega (arith, some, cost, free))
+          | inr none ↦ sym starts ∙ (sym (ap (end_of_steps first.walk.start) (no_steps first.walk.steps none.1)) ∙ ends)
+        ],
+      )
+
+-- without segments a move costs 1 for each edge
+goes_counted : (network : Network) → network.segments ≡ [] → (label : On) (w : Walk) (c : ℕ) → Goes network label w c → c ≡ length (edges_of w)
+goes_counted network none on.Empty w c g = g.free ∙ sym (ap (λ (l : List Step). length (edges_along l)) g.still)
+goes_counted network none (on.Label l) w c g = g.cost ∙ sym (ap (λ (v : Walk). length (edges_of v)) g.goes)
+goes_counted network none (on.Back l) w c g = g.cost ∙ sym (ap (λ (v : Walk). length (edges_of v)) g.goes)
+goes_counted network none on.Any w c g = g.cost ∙ sym (ap (λ (v : Walk). length (edges_of v)) g.goes)
+goes_counted network none on.AnyBack w c g = g.cost ∙ sym (ap (λ (v : Walk). length (edges_of v)) g.goes)
+goes_counted network none (on.Test l) w c g = g.free ∙ sym (ap (λ (v : Walk). length (edges_of v)) g.still)
+goes_counted network none (on.View v) w c g = absurd (among_none (record { view = v; walk = w; cost = c }) (subst (λ l. Contains l (record { view = v; walk = w; cost = c })) none g))
+
+pub passage_counted : (setting : Setting) → setting.network.segments ≡ [] → (q : Pair) (x : Passage Pair) → Has (passages setting q) x → IsCounted x
+passage_counted setting none q x h =
+    let from = Has_from_map (passage setting) (moves setting q.node q.state) x h in
+    let by = by_move setting q.node q.state from.0 (contains_of (moves setting q.node q.state) from.0 from.1) in
+    let first = hop_goes setting.network by.transition.on by.hop by.along in
+    let cost : by.hop.cost ≡ x.cost = ap (λ (k : Move). k.cost) by.is ∙ ap (λ (y : Passage Pair). y.cost) from.2 in
+    let edges : edges_of first.walk ≡ x.edges = ap edges_along (first.steps ∙ ap (steps_of setting) by.is) ∙ ap (λ (y : Passage Pair). y.edges) from.2 in
+    sym cost ∙ (goes_counted setting.network none by.transition.on first.walk by.hop.cost first.goes ∙ ap length edges)

@@ -1,5 +1,5 @@
 -- How many moves walks have behind them, of which no pair has more than k.
-use Rattle.std.proofs.Common.{◌≡◌, ℕ, suc, ◌+◌, ◌*◌, ◌<◌, ◌≤◌, Bool, true, false, cond, ◌&&◌, ◌==◌, List, [], ◌∷◌, ◌++◌, inl, inr, map, length, refl, ap, ap₂, subst, ◌∙◌, arith, sum_by, length-append}
+use Rattle.std.proofs.Common.{◌≡◌, ℕ, suc, ◌+◌, ◌*◌, ◌<◌, ◌≤◌, Bool, true, false, cond, ◌&&◌, ◌==◌, List, [], ◌∷◌, ◌++◌, inl, inr, map, length, nat_lt, refl, ap, ap₂, subst, ◌∙◌, arith, sum_by, length-append}
 use Rattle.std.specs.List.{flat_map}
 use Rattle.std.proofs.Math.Nat.{mul-le-mul_left}
 use Rattle.std.proofs.lemmas.Bool.Decides.{nat_tests}
@@ -8,13 +8,14 @@ use Rattle.std.proofs.lemmas.List.Sums.{sum_by-cons, sum_by-append}
 use Rattle.gc_automata.specs.Moves.{Network}
 use Rattle.gc_automata.specs.declared.transition.Transition.{Transition}
 use Rattle.gc_prod.specs.declared.moves.Hop.{Hop}
+use Rattle.gc_prod.specs.declared.moves.Move.{Move}
 use Rattle.gc_prod.specs.declared.moves.Pair.{Pair}
 use Rattle.gc_prod.specs.Keys.{at_key}
-use Rattle.gc_prod.specs.Leading.{pair}
+use Rattle.gc_prod.specs.Leading.{pair, target_of}
 use Rattle.gc_prod.specs.Products.{Setting, bundle_of, leaving, moved, moves_by}
 use Rattle.gc_prod.specs.SymbolHops.{hops}
 use Rattle.gc_prod.proofs.HopCounts.{elements, hops_most}
-use Rattle.gc_search.specs.Arrivals.{FoundWalk, entry_of, same_pair, arrivals_at, settled_at}
+use Rattle.gc_search.specs.Arrivals.{FoundWalk, entry_of, same_pair, arrivals_at, settled_at, open_moves}
 use Rattle.gc_search.specs.Counting.{degree, asked, most_moves}
 use Rattle.gc_search.proofs.Flat.{settled_here, settled_elsewhere}
 
@@ -118,3 +119,12 @@ asked_more setting k walks few c room =
     let all = asked_most setting k (walks ++ c ∷ []) few_more in
     let single : sum_by (degree setting) (c ∷ []) ≡ degree setting c = omega arith in
     omega (arith, all, sum_by-append (degree setting) walks (c ∷ []), single)
+
+-- those of some moves that lead where there is room are no more than these
+pub open_fewer : (walks : List FoundWalk) (k : ℕ) (ms : List Move) → length (open_moves walks k ms) ≤ length ms
+open_fewer walks k [] = omega arith
+open_fewer walks k (m ∷ ms) = by (nat_lt (length (arrivals_at walks (target_of m))) k) (open_fewer walks k ms)
+  where
+    by : (b : Bool) → length (open_moves walks k ms) ≤ length ms → length (cond b (m ∷ open_moves walks k ms) (open_moves walks k ms)) ≤ length (m ∷ ms)
+    by true le = omega (arith, le)
+    by false le = omega (arith, le)

@@ -1,5 +1,5 @@
 -- Walks from the source that are found, each with the run by which it is.
-use Rattle.std.specs.Prelude.{length, suc, ◌≡◌, ◌⊎◌, ℕ, ◌+◌, Bool, true, false, ◌&&◌, ◌==◌, List, [], ◌∷◌, ◌++◌, map}
+use Rattle.std.specs.Prelude.{length, suc, ◌≡◌, ◌⊎◌, ℕ, ◌+◌, ◌<◌, ◌≤◌, nat_lt, Bool, true, false, ◌&&◌, ◌==◌, List, [], ◌∷◌, ◌++◌, map, Option, Some, None}
 use Rattle.std.specs.List.{filter}
 use Rattle.gc_base.specs.declared.walk.Step.{Step}
 use Rattle.gc_prod.specs.declared.moves.Move.{Move}
@@ -7,7 +7,7 @@ use Rattle.gc_prod.specs.declared.moves.Pair.{Pair}
 use Rattle.gc_prod.specs.declared.moves.RunMove.{RunMove}
 use Rattle.gc_prod.specs.Leading.{pair, target_of, steps_of}
 use Rattle.gc_prod.specs.Products.{Setting, moves}
-use Rattle.gc_search.specs.Entries.{Entry, entry, AtMost}
+use Rattle.gc_search.specs.Entries.{Entry, entry, AtMostAt}
 use Rattle.gc_search.specs.Passages.{Has, Passage}
 
 -- a walk from the source: the pair at which it arrives, its cost and its steps, and the moves of its run
@@ -57,19 +57,19 @@ extended setting a m = record {
 abbrev pub extensions : Setting → FoundWalk → List Move → List FoundWalk
 extensions setting a ms = map (extended setting a) ms
 
+-- those of some moves that lead to pairs at which fewer than k walks are settled
+abbrev pub open_moves : List FoundWalk → ℕ → List Move → List Move
+open_moves settled k ms = filter (λ m. nat_lt (length (arrivals_at settled (target_of m))) k) ms
+
 -- a test tells the first, or the second
 abbrev pub Told : Bool → Type 0 → Type 0 → Type 0
 Told true A B = A
 Told false A B = B
 
--- two arrive at one pair along the same edges
-abbrev pub AreSame : FoundWalk → FoundWalk → Type 0
-AreSame a b = (a.at ≡ b.at) × (edges_along a.steps ≡ edges_along b.steps)
-
 -- a least one is taken out
 pub record TakesLeast (before : List FoundWalk) (taken : FoundWalk) (after : List FoundWalk) : Type 0 where
   pub there : Has before taken
-  pub least : (x : FoundWalk) → Has before x → AtMost (entry_of taken) (entry_of x)
+  pub least : (x : FoundWalk) → Has before x → AtMostAt taken.at.node (entry_of taken) x.at.node (entry_of x)
   pub kept : (x : FoundWalk) → Has before x → Has after x ⊎ (taken ≡ x)
   pub from : (x : FoundWalk) → Has after x → Has before x
   pub shorter : length before ≡ suc (length after)
@@ -77,3 +77,32 @@ pub record TakesLeast (before : List FoundWalk) (taken : FoundWalk) (after : Lis
 -- its edges are those of a walk that is settled at its pair
 abbrev pub IsSeen : List FoundWalk → FoundWalk → Type 0
 IsSeen settled a = (x : Entry) × Has (settled_at settled a.at) x × (x.edges ≡ edges_along a.steps)
+
+-- there are fewer than k at its pair, and none with its edges; or else there are k, or one with its edges
+abbrev pub IsNew : List FoundWalk → ℕ → FoundWalk → Type 0
+IsNew settled k a = (length (settled_at settled a.at) < k) × (IsSeen settled a → ⊥)
+
+abbrev pub IsOld : List FoundWalk → ℕ → FoundWalk → Type 0
+IsOld settled k a = (k ≤ length (settled_at settled a.at)) ⊎ IsSeen settled a
+
+-- the last walk at its pair has other edges
+abbrev pub IsNotLast : List FoundWalk → FoundWalk → Type 0
+IsNotLast settled a = (xs : List FoundWalk) (y : FoundWalk) → arrivals_at settled a.at ≡ xs ++ y ∷ [] → edges_along y.steps ≡ edges_along a.steps → ⊥
+
+-- where the edges tell the cost, the last walk at the pair is looked at, and else all are
+abbrev pub IsUnknown : Bool → List FoundWalk → FoundWalk → Type 0
+IsUnknown true settled a = IsNotLast settled a
+IsUnknown false settled a = IsSeen settled a → ⊥
+
+abbrev pub IsFree : Bool → List FoundWalk → ℕ → FoundWalk → Type 0
+IsFree plain settled k a = (length (settled_at settled a.at) < k) × IsUnknown plain settled a
+
+-- a pair is asked for: the one that is, if one is, and else each
+abbrev pub IsAsked : Option Pair → Pair → Type 0
+IsAsked None q = Unit {0}
+IsAsked (Some target) q = target ≡ q
+
+-- k walks are settled at the pair that is asked for
+abbrev pub IsDone : Option Pair → List FoundWalk → ℕ → Type 0
+IsDone None settled k = ⊥
+IsDone (Some target) settled k = k ≤ length (settled_at settled target)

@@ -1,8 +1,9 @@
 pub mod Arrivals
-pub mod Chains
 pub mod Counting
 pub mod Entries
 pub mod Finding
 pub mod FirstWalks
 pub mod HeapOrder
 pub mod Passages
+pub mod Places
+pub mod Waiting

@@ -1,6 +1,6 @@
 -- Going along passages, from place to place, with what is passed so far.
 use Rattle.std.specs.Prelude.{◌≡◌, ◌⊎◌, ℕ, ◌≤◌, List, [], ◌∷◌, length}
-use Rattle.gc_search.specs.Entries.{Entry, entry, Before, extend}
+use Rattle.gc_search.specs.Entries.{Entry, entry, Before, IsMoveCost, extend}
 
 -- a list has an item
 abbrev pub Has : {X : Type 0} → List X → X → Type 0
@@ -12,6 +12,14 @@ pub record Passage (P : Type 0) : Type 0 where
   pub to : P
   pub cost : ℕ
   pub edges : List ℕ
+
+-- a passage from a place costs at least 1, or it costs nothing, passes no edge and leads to one with the same number
+abbrev pub IsOnward : {P : Type 0} → (P → ℕ) → P → Passage P → Type 0
+IsOnward number p m = IsMoveCost m.cost m.edges × (m.cost ≡ 0 → number p ≡ number m.to)
+
+-- it costs 1 for each edge
+abbrev pub IsCounted : {P : Type 0} → Passage P → Type 0
+IsCounted m = m.cost ≡ length m.edges
 
 -- passages lead from a place with what is passed so far to a place with all that is passed
 abbrev pub Goes : {P : Type 0} → (P → List (Passage P)) → P → Entry → List (Passage P) → P → Entry → Type 0

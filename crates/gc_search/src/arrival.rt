@@ -2,11 +2,11 @@ ghost use Rattle.std.specs.Prelude.{◌≡◌, ◌+◌, ◌<◌, ◌≤◌, ◌^
 ghost use Rattle.std.specs.Cmp.{eq_by_cmp_equiv, partial_equiv_from_equiv, partial_order_from_total};
 ghost use Rattle.std.specs.Ordering.{eq_by_cmp};
 ghost use Rattle.gc_prod.specs.SymbolHops.{steps_by};
-ghost use Rattle.gc_search.specs.Arrivals.{edges_along, stays_at, extended, AreSame, Told};
+ghost use Rattle.gc_search.specs.Arrivals.{edges_along, stays_at, extended, Told};
 ghost use Rattle.gc_search.specs.HeapOrder.{heap_order, heap_order_total};
 
 use gc_base::{Id, Memory, Step, edges_cmp};
-use gc_prod::{By, Keyed, Move, Pair, Product, RunMove};
+use gc_prod::{By, Move, Pair, Product, RunMove};
 use std::alloc::Global;
 use std::cmp::Ordering;
 use std::marker::Model;
@@ -26,14 +26,6 @@ impl Model for Arrival {
     ghost Value = { FoundWalk };
 
     ghost view = { λ a. record { at = a.at; cost = a.cost; steps = a.steps.items; run = a.run.items } };
-}
-
-impl Keyed for Arrival {
-    ghost key_of = { λ a. a.at.node };
-
-    fn key(&self) -> u64 {
-        self.at.node.get()
-    }
 }
 
 impl PartialEq for Arrival {
@@ -75,6 +67,7 @@ impl Ord for Arrival {
             .cost
             .cmp(&self.cost)
             .then(other.steps.len().cmp(&self.steps.len()))
+            .then(other.at.node.cmp(&self.at.node))
             .then_with(|| edges_cmp(&other.steps, &self.steps))
     }
 }
@@ -95,11 +88,11 @@ impl Arrival {
         }
     }
 
-    // Whether it arrives where another does, along the same edges.
-    pub(crate) fn is_same(&self, other: &Arrival) -> bool
-        ensures { Told result (AreSame self.now other.now) (AreSame self.now other.now → ⊥) }
+    // Whether it passes the edges that another does.
+    pub(crate) fn has_edges_of(&self, other: &Arrival) -> bool
+        ensures { Told result (edges_along self.now.steps ≡ edges_along other.now.steps) (edges_along self.now.steps ≡ edges_along other.now.steps → ⊥) }
     {
-        same_pair(&self.at, &other.at) && have_same_edges(&self.steps, &other.steps)
+        have_same_edges(&self.steps, &other.steps)
     }
 
     // It, and a move behind it.
@@ -108,9 +101,9 @@ impl Arrival {
         ensures exact { IfOk result (λ longer. longer ≡ extended p.now self.now by) }
         ensures small { by.cost < 2 ^ 64 }
     {
-        let mut steps = Vec::from_slice(alloc, &self.steps)?;
+        let mut steps = with_room(alloc, &self.steps)?;
         add_move(p, by.by, by.node, &mut steps)?;
-        let mut run = Vec::from_slice(alloc, &self.run)?;
+        let mut run = with_room(alloc, &self.run)?;
         run.push(RunMove {
             by: by.by,
             to: by.state,
@@ -127,16 +120,19 @@ impl Arrival {
     }
 }
 
-pub(crate) fn same_pair(a: &Pair, b: &Pair) -> bool
-    ensures { Told result (a.now ≡ b.now) (a.now ≡ b.now → ⊥) }
+// A copy of some items, with room for one more.
+fn with_room<T: Copy>(alloc: Global, items: &[T]) -> Result<Vec<T>, Memory>
+    ensures { IfOk result (λ copy. copy.items ≡ items.now) }
 {
-    a.node == b.node && a.state == b.state
+    let mut copy = Vec::with_capacity(alloc, items.len().saturating_add(1))?;
+    copy.extend_from_slice(items)?;
+    Ok(copy)
 }
 
 fn have_same_edges(steps: &[Step], others: &[Step]) -> bool
     ensures { Told result (edges_along steps.now ≡ edges_along others.now) (edges_along steps.now ≡ edges_along others.now → ⊥) }
 {
-    edges_cmp(steps, others).is_eq()
+    steps.len() == others.len() && edges_cmp(steps, others).is_eq()
 }
 
 // Adds the steps that a walk takes by a move to a node.

@@ -4,9 +4,10 @@ ghost use Rattle.gc_prod.specs.Leading.{pair};
 ghost use Rattle.gc_search.specs.Arrivals.{arrivals_at};
 ghost use Rattle.gc_search.specs.Finding.{walks_to, runs_to, potential_of};
 
-use crate::arrival::{Arrival, same_pair};
+use crate::arrival::Arrival;
+use crate::settled::Settled;
 use gc_base::{Cost, Id, Memory, Sequence, Walk};
-use gc_prod::{ByKey, Pair, Run};
+use gc_prod::{Pair, Run};
 use std::marker::Model;
 
 /// The walks that a search finds from a source, by the node to which they lead. Contracts see the
@@ -15,7 +16,7 @@ use std::marker::Model;
 pub struct Found {
     pub(crate) source: Id,
     pub(crate) last: u32,
-    pub(crate) walks: ByKey<Arrival>,
+    pub(crate) walks: Settled,
 }
 
 impl Model for Found {
@@ -37,7 +38,7 @@ impl Found {
             node: target,
             state: self.last,
         };
-        count_at(self.around(&at), &at) as u32
+        self.walks.count_at(&at) as u32
     }
 
     /// The cost of the i-th walk to a node, for a number below the count.
@@ -87,17 +88,10 @@ impl Found {
         ensures { result ≡ potential_of self.now (pair node state) }
     {
         let at = Pair { node, state };
-        match nth_at(self.around(&at), &at, 0) {
+        match self.walks.get(&at, 0) {
             None => None,
             Some(arrival) => Some(Cost::of(arrival.cost)),
         }
-    }
-
-    // Walks among which are all that arrive at a pair.
-    fn around(&self, at: &Pair) -> &[Arrival]
-        ensures { arrivals_at result.now at.now ≡ arrivals_at self.now.walks at.now }
-    {
-        self.walks.at(at.node.get())
     }
 
     // The i-th that arrives at a node in the last state.
@@ -108,35 +102,6 @@ impl Found {
             node: target,
             state: self.last,
         };
-        nth_at(self.around(&at), &at, i as usize)
+        self.walks.get(&at, i as usize)
     }
-}
-
-// How many of some walks arrive at a pair.
-fn count_at(walks: &[Arrival], at: &Pair) -> usize
-    ensures { result ≡ length (arrivals_at walks.now at.now) }
-{
-    let mut count = 0;
-    for known in walks {
-        if same_pair(&known.at, at) {
-            count += 1;
-        }
-    }
-    count
-}
-
-// The i-th of those that arrive at a pair.
-fn nth_at<'a>(walks: &'a [Arrival], at: &Pair, i: usize) -> Option<&'a Arrival>
-    ensures { option_copied result ≡ slice_get (arrivals_at walks.now at.now) i }
-{
-    let mut left = i;
-    for known in walks {
-        if same_pair(&known.at, at) {
-            if left == 0 {
-                return Some(known);
-            }
-            left -= 1;
-        }
-    }
-    None
 }

@@ -11,4 +11,4 @@ mod settled;
 mod settling;
 
 pub use found::Found;
-pub use searching::search;
+pub use searching::{search, search_to};

@@ -1,4 +1,4 @@
-ghost use Rattle.std.specs.Prelude.{◌+◌, ◌*◌, ◌<◌, ◌≤◌, ℕ, IfOk};
+ghost use Rattle.std.specs.Prelude.{◌≡◌, ◌+◌, ◌*◌, ◌<◌, ◌≤◌, [], true, ℕ, IfOk};
 ghost use Rattle.std.specs.List.{AllByRecursion};
 ghost use Rattle.gc_regx.specs.Expressions.{HasParts};
 ghost use Rattle.gc_regx.specs.Trees.{RegexTree, ARegex};
@@ -15,7 +15,7 @@ use crate::found::Found;
 use crate::settling::settle;
 use gc_automata::runs_pass_the_conforming_walks;
 use gc_base::{Id, Memory, Steps};
-use gc_prod::{ByKey, Product};
+use gc_prod::{Pair, Product};
 use std::alloc::Global;
 use std::sync::ledger::Ledger;
 
@@ -45,11 +45,52 @@ pub fn search<L: Ledger>(
     runs_pass_the_conforming_walks();
     let _nodes = p.nodes();
     let last = p.states().saturating_sub(1);
-    let settled = settle(alloc, p, source, k, steps)?;
-    let walks = ByKey::of(settled)?;
+    let walks = settle(alloc, p, source, None, k, is_plain(p), steps)?;
     Ok(Found {
         source,
         last,
         walks,
     })
+}
+
+/// The first k walks from a node to one node that a run passes from the first state to the last, as
+/// `search` finds them. It ends once these are found.
+pub fn search_to<L: Ledger>(
+    alloc: Global,
+    p: &Product,
+    source: Id,
+    target: Id,
+    k: u32,
+    steps: &mut Steps<L>,
+) -> Result<Found, Memory>
+    requires source { IsThere p.now.network source }
+    requires segments { AreSegments p.now.network.graph p.now.network.segments }
+    requires some { 0 < k }
+    ensures runs { IfOk result (λ found. AreFirst (IsRun p.now) source target k (walks_to found target)) }
+    ensures conform { IfOk result (λ found. (tree : RegexTree ARegex) → HasParts tree → IsAutomatonOf tree p.now.machine
+        → AreFirst (Conforms p.now.network tree) source target k (walks_to found target)) }
+    ensures passed { IfOk result (λ found. AllByRecursion (IsFollowed p.now source) found.walks) }
+    ensures few { steps.new ≤ steps.old + k * most_moves p.now }
+{
+    runs_pass_the_conforming_walks();
+    let _nodes = p.nodes();
+    let last = p.states().saturating_sub(1);
+    let at = Pair {
+        node: target,
+        state: last,
+    };
+    let walks = settle(alloc, p, source, Some(at), k, is_plain(p), steps)?;
+    Ok(Found {
+        source,
+        last,
+        walks,
+    })
+}
+
+// Whether there is no segment, so that a walk costs 1 for each edge.
+fn is_plain(p: &Product) -> bool
+    requires { AreSegments p.now.network.graph p.now.network.segments }
+    ensures { result ≡ true → p.now.network.segments ≡ [] }
+{
+    p.segment_steps(0).is_empty()
 }

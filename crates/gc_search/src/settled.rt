@@ -1,149 +1,195 @@
-ghost use Rattle.std.specs.Prelude.{◌≡◌, ◌+◌, ◌*◌, ◌^◌, ◌<◌, ◌≤◌, ◌++◌, ◌∷◌, [], length, IfOk, OnOk};
+ghost use Rattle.std.specs.Prelude.{◌≡◌, ◌+◌, ◌*◌, ◌^◌, ◌<◌, ◌++◌, ◌∷◌, [], length, replicate, true, slice_get, slice_index, IfOk, IfSome, OnOk};
+ghost use Rattle.std.specs.Option.{option_copied};
 ghost use Rattle.std.specs.Ordering.{nat_cmp};
 ghost use Rattle.gc_base.specs.Ascending.{Ascends};
-ghost use Rattle.gc_search.specs.Arrivals.{settled_at, IsSeen, Told};
-ghost use Rattle.gc_search.specs.Chains.{place_in, list_in, list_of, IsAt, IsListed};
+ghost use Rattle.gc_search.specs.Arrivals.{arrivals_at, IsNotLast, IsSeen, Told};
+ghost use Rattle.gc_search.specs.Places.{place_in, number_of, places_from};
 
-use crate::arrival::{Arrival, same_pair};
-use gc_base::{Id, Memory};
+use crate::arrival::Arrival;
+use gc_base::{Id, Memory, Sequence};
 use gc_prod::Pair;
 use std::alloc::Global;
 use std::marker::Model;
 
-// The walks that are settled, in the order in which they were. Those of a pair stand in a list of its
-// own, which begins with the last: `heads` has one more than the place of the first walk in each list,
-// and `earlier` that of the next one behind each walk, or 0 where there is none.
+// The walks that are settled, in the order in which they were, and for each pair of a node and a state
+// the places of those that arrive at it. Contracts see the walks alone.
 #[derive(Drop)]
-pub(crate) struct Settled<'a> {
-    nodes: &'a [Id],
+pub(crate) struct Settled {
+    nodes: Vec<Id>,
     width: usize,
     walks: Vec<Arrival>,
-    heads: Vec<usize>,
-    earlier: Vec<usize>,
+    places: Vec<Sequence<usize>>,
 }
 
-impl<'a> Model for Settled<'a> {
-    ghost use Rattle.gc_search.specs.Chains.{Listing, listing, IsListed};
+impl Model for Settled {
+    ghost use Rattle.std.specs.Prelude.{List};
+    ghost use Rattle.gc_search.specs.Arrivals.{FoundWalk};
+    ghost use Rattle.gc_search.specs.Places.{IsListed};
 
-    ghost Value = { Listing };
+    ghost Value = { List FoundWalk };
 
-    ghost view = { λ s. listing s.nodes.now s.width s.walks.items s.heads.items s.earlier.items };
+    ghost view = { λ s. s.walks.items };
 
-    ghost invariant = { λ s. IsListed (listing s.nodes.now s.width s.walks.items s.heads.items s.earlier.items) };
+    ghost invariant = { λ s. IsListed s.nodes.items s.width s.walks.items s.places.items };
 }
 
-impl<'a> Settled<'a> {
+impl Settled {
     // No walk is settled. There is a list for each of these nodes and each state below a number.
-    pub(crate) fn of(alloc: Global, nodes: &'a [Id], width: usize) -> Result<Settled<'a>, Memory>
-        requires ascend { Ascends nat_cmp nodes.now }
-        requires some { 0 < width }
-        ensures { IfOk result (λ s. s.walks ≡ []) }
+    pub(crate) fn of(alloc: Global, nodes: &[Id], width: usize) -> Result<Settled, Memory>
+        requires { Ascends nat_cmp nodes.now }
+        ensures { IfOk result (λ s. s ≡ []) }
     {
-        let Some(most) = nodes.len().checked_mul(width) else {
+        let Some(size) = nodes.len().checked_mul(width) else {
             return Err(Memory);
         };
-        let Some(size) = most.checked_add(width) else {
-            return Err(Memory);
-        };
-        let heads = vec![in alloc; 0; size]?;
+        let nodes = Vec::from_slice(alloc, nodes)?;
+        let places = empty_lists(alloc, size)?;
         Ok(Settled {
             nodes,
             width,
             walks: Vec::new(alloc),
-            heads,
-            earlier: Vec::new(alloc),
+            places,
         })
     }
 
     // Whether the edges of a walk are those of one that is settled at its pair.
     pub(crate) fn is_seen(&self, next: &Arrival) -> bool
-        ensures { Told result (IsSeen self.now.walks next.now) (IsSeen self.now.walks next.now → ⊥) }
+        ensures { Told result (IsSeen self.now next.now) (IsSeen self.now next.now → ⊥) }
     {
-        let mut left = self.first(&next.at);
-        while 0 < left {
-            if self.walks[left - 1].is_same(next) {
+        let places = self.places_at(&next.at);
+        for i in 0..places.len() {
+            if self.walks[places[i]].has_edges_of(next) {
                 return true;
             }
-            left = self.earlier[left - 1];
         }
         false
     }
 
+    // Whether the edges of a walk are those of the last one that is settled at its pair.
+    pub(crate) fn is_last(&self, next: &Arrival) -> bool
+        ensures { Told result (IsSeen self.now next.now) (IsNotLast self.now next.now) }
+    {
+        let places = self.places_at(&next.at);
+        if places.len() == 0 {
+            return false;
+        }
+        self.walks[places[places.len() - 1]].has_edges_of(next)
+    }
+
     // How many are settled at a pair.
     pub(crate) fn count_at(&self, at: &Pair) -> usize
-        ensures exact { result ≡ length (settled_at self.now.walks at.now) }
-        ensures few { length self.now.walks < 2 ^ 63 }
+        ensures exact { result ≡ length (arrivals_at self.now at.now) }
+        ensures few { length self.now < 2 ^ 63 }
     {
-        let mut count = 0;
-        let mut left = self.first(at);
-        while 0 < left {
-            if same_pair(&self.walks[left - 1].at, at) {
-                count += 1;
-            }
-            left = self.earlier[left - 1];
+        let _few = self.walks.len();
+        self.places_at(at).len()
+    }
+
+    // The i-th of those that are settled at a pair.
+    pub(crate) fn get(&self, at: &Pair, i: usize) -> Option<&Arrival>
+        ensures { option_copied result ≡ slice_get (arrivals_at self.now at.now) i }
+    {
+        match self.places_at(at).get(i) {
+            None => None,
+            Some(place) => Some(&self.walks[*place]),
         }
-        count
     }
 
     // Settles a walk behind the others.
     pub(crate) fn push(&mut self, next: Arrival) -> Result<(), Memory>
-        ensures { OnOk result (self.new.walks ≡ self.old.walks ++ next ∷ []) }
+        ensures { OnOk result (self.new ≡ self.old ++ next ∷ []) }
     {
-        let list = list_number(self.nodes, self.width, &next.at);
-        self.earlier.push(self.heads[list])?;
-        match self.walks.push(next) {
-            Ok(()) => {
-                self.heads[list] = self.walks.len();
-                Ok(())
-            }
+        let Some(number) = number_of(&self.nodes, self.width, &next.at) else {
+            return Err(Memory);
+        };
+        let place = self.walks.len();
+        self.walks.push(next)?;
+        match self.places[number].push(place) {
+            Ok(()) => Ok(()),
             Err(refused) => {
-                self.earlier.pop();
-                Err(refused.into())
+                self.walks.pop();
+                Err(refused)
             }
         }
     }
 
-    // All of them.
-    pub(crate) fn into_vec(self) -> Vec<Arrival>
-        ensures { result.items ≡ self.entry.walks }
+    // The places of those that are settled at a pair.
+    fn places_at(&self, at: &Pair) -> &[usize]
+        ensures { result.now ≡ places_from 0 self.now at.now }
     {
-        self.walks
-    }
-
-    // One more than the place of the first walk in the list of a pair, or 0 where there is none.
-    fn first(&self, at: &Pair) -> usize
-        ensures listed { IsListed self.now }
-        ensures there { IsAt self.now.heads (list_of self.now at.now) result }
-    {
-        self.heads[list_number(self.nodes, self.width, at)]
+        match number_of(&self.nodes, self.width, at) {
+            None => &[],
+            Some(number) => self.places[number].as_slice(),
+        }
     }
 }
 
-// The number of the list of a pair.
-fn list_number(nodes: &[Id], width: usize, at: &Pair) -> usize
-    requires ascend { Ascends nat_cmp nodes.now }
-    requires some { 0 < width }
-    requires room { length nodes.now * width + width < 2 ^ 64 }
-    ensures exact { result ≡ list_in nodes.now width at.now }
-    ensures within { result < length nodes.now * width + width }
+// So many lists of no places.
+fn empty_lists(alloc: Global, size: usize) -> Result<Vec<Sequence<usize>>, Memory>
+    ensures { IfOk result (λ lists. lists.items ≡ replicate size []) }
 {
-    let place = place_of(nodes, at.node);
+    let mut lists = Vec::with_capacity(alloc, size)?;
+    for _ in 0..size {
+        lists.push(Sequence::new(alloc))?;
+    }
+    Ok(lists)
+}
+
+// The number of a pair, if its node is among some and its state below a number.
+fn number_of(nodes: &[Id], width: usize, at: &Pair) -> Option<usize>
+    requires ascend { Ascends nat_cmp nodes.now }
+    requires room { length nodes.now * width < 2 ^ 64 }
+    ensures exact { result ≡ number_of nodes.now width at.now }
+    ensures within { IfSome result (λ n. n < length nodes.now * width) }
+{
     let state = at.state as usize;
     if state < width {
-        place * width + state
+        match place_of(nodes, at.node) {
+            None => None,
+            Some(place) => Some(place * width + state),
+        }
     } else {
-        place * width
+        None
     }
 }
 
-// How many of some ascending nodes come before one, which is its place where it is among them.
-fn place_of(nodes: &[Id], node: Id) -> usize
-    requires ascend { Ascends nat_cmp nodes.now }
-    ensures within { result ≤ length nodes.now }
-    ensures place { result ≡ place_in nodes.now node }
+// The place of a node among ascending ones. Where they are close together, it is looked for first where
+// it stands if none is left out.
+fn place_of(nodes: &[Id], node: Id) -> Option<usize>
+    requires { Ascends nat_cmp nodes.now }
+    ensures exact { result ≡ place_in nodes.now node }
+    ensures within { IfSome result (λ place. place < length nodes.now) }
+{
+    let guess = guessed(nodes, node);
+    if stands_at(nodes, guess, node) {
+        Some(guess)
+    } else {
+        halved(nodes, node)
+    }
+}
+
+fn guessed(nodes: &[Id], node: Id) -> usize {
+    match nodes.first() {
+        None => 0,
+        Some(first) => node.get().saturating_sub(first.get()) as usize,
+    }
+}
+
+fn stands_at(nodes: &[Id], place: usize, node: Id) -> bool
+    ensures within { result ≡ true → place < length nodes.now }
+    ensures there { result ≡ true → slice_index nodes.now place ≡ node }
+{
+    place < nodes.len() && nodes[place] == node
+}
+
+// The same by halving.
+fn halved(nodes: &[Id], node: Id) -> Option<usize>
+    requires { Ascends nat_cmp nodes.now }
+    ensures exact { result ≡ place_in nodes.now node }
+    ensures within { IfSome result (λ place. place < length nodes.now) }
 {
     match nodes.binary_search_by(|other| other.cmp(&node)) {
-        Ok(place) => place,
-        Err(gap) => gap,
+        Ok(place) => Some(place),
+        Err(_) => None,
     }
 }

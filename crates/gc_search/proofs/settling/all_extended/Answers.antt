@@ -1,36 +1,33 @@
-use Rattle.std.proofs.Common.{◌≡◌, ◌+◌, ◌^◌, ◌≤◌, ◌++◌, ◌∷◌, [], ◌∙◌, ap, sym, subst, drop, arith, List, Some, length}
-use Rattle.std.specs.List.{AllByRecursion, slice_get}
-use Rattle.gc_base.proofs.SetLaws.{AllByRecursion-append}
-use Rattle.gc_prod.specs.Products.{moves}
-use Rattle.gc_prod.proofs.HopLists.{left_at, mapped_more}
-use Rattle.gc_search.specs.Arrivals.{FoundWalk, extended, extensions}
-use Rattle.gc_search.proofs.LoopLaws.{extensions_end}
+use Rattle.std.proofs.Common.{◌≡◌, ◌+◌, ◌++◌, ◌∙◌, List, Some, ap, subst, arith}
+use Rattle.std.specs.List.{slice_get}
+use Rattle.gc_prod.specs.Products.{bundles, moves}
+use Rattle.gc_search.specs.Arrivals.{FoundWalk}
+use Rattle.gc_search.proofs.BundleLaws.{grown, moves_from, moves_left, bundle_left}
 use Rattle.gc_search.proofs.settling.all_extended.Goals as goal
 
-pub returns-in-None-clause-exact : goal.returns-in-None-clause-exact
-returns-in-None-clause-exact g c =
-    let last = c.args.last.now in
-    extensions_end c.args.p.now last (moves c.args.p.now last.at.node last.at.state) c.loop-i.i c.loop-i.more.items _
-    (sym (ap (λ (a : FoundWalk). slice_get (moves c.args.p.now a.at.node a.at.state) c.loop-i.i) c.last.view_is) ∙ sym c.in-None.ensures.exact) c.loop-i.invariant.exact
-
-pub loop-i-preserved : goal.loop-i-preserved
-loop-i-preserved g c =
+pub returns-in_err-add_extensions-clause-few : goal.returns-in_err-add_extensions-clause-few
+returns-in_err-add_extensions-clause-few g c =
     let p = c.args.p.now in
     let last = c.args.last.now in
-    let ms = moves p last.at.node last.at.state in
-    let more = c.loop-i.more.items in
-    let x = extended p last c.in-Some.by in
-    let grown : c.push.new.self.items ≡ more ++ x ∷ [] =
-    c.in_ok-push-in-Some.ensures.items ∙ ap (λ (a : FoundWalk). more ++ a ∷ []) c.in_ok-extended-in-Some.ensures.exact in
-    let here : slice_get ms c.loop-i.i ≡ Some c.in-Some.by =
-    sym (ap (λ (a : FoundWalk). slice_get (moves p a.at.node a.at.state) c.loop-i.i) c.last.view_is) ∙ sym c.in-Some.ensures.exact in
+    let j = c.loop-j.j in
+    let b = c.bundle-bundle.result in
+    let at = subst (λ (a : FoundWalk). slice_get (bundles p a.at.node a.at.state) j ≡ Some b) c.last.view_is c.bundle-bundle.ensures.exact in
+    omega (arith, c.loop-j.invariant.few, c.bundle-bundle.ensures.step, moves_left p c.args.settled.now c.args.k last (bundles p last.at.node last.at.state) j b at)
+
+pub loop-j-preserved : goal.loop-j-preserved
+loop-j-preserved g c =
+    let p = c.args.p.now in
+    let last = c.args.last.now in
+    let settled = c.args.settled.now in
+    let k = c.args.k in
+    let j = c.loop-j.j in
+    let bs = bundles p last.at.node last.at.state in
+    let b = c.bundle-bundle.result in
+    let at = subst (λ (a : FoundWalk). slice_get (bundles p a.at.node a.at.state) j ≡ Some b) c.last.view_is c.bundle-bundle.ensures.exact in
     record {
       exact =
-          ap (λ (l : List FoundWalk). l ++ extensions p last (drop (c.loop-i.i + 1) ms)) grown
-          ∙ mapped_more (extended p last) more ms c.loop-i.i c.in-Some.by _
-          here c.loop-i.invariant.exact;
-      small =
-          subst (λ (l : List FoundWalk). AllByRecursion (λ a. a.cost ≤ last.cost + 2 ^ 64) l) (sym grown)
-          (AllByRecursion-append (λ (a : FoundWalk). a.cost ≤ last.cost + 2 ^ 64) more (x ∷ []) c.loop-i.invariant.small (omega (arith, c.extended.ensures.small), tt));
-      few = omega (arith, c.loop-i.invariant.few, c.in-Some.ensures.step, ap length (left_at ms c.loop-i.i c.in-Some.by here));
+          ap (λ (l : List FoundWalk). l ++ grown p settled k last (moves_from bs (j + 1))) c.in_ok-add_extensions.ensures.exact
+          ∙ bundle_left p settled k last bs j b at c.loop-j.more.items (grown p settled k last (moves p last.at.node last.at.state)) c.loop-j.invariant.exact;
+      small = c.in_ok-add_extensions.ensures.small;
+      few = omega (arith, c.loop-j.invariant.few, c.bundle-bundle.ensures.step, moves_left p settled k last bs j b at);
     }

@@ -1,13 +1,13 @@
-use Rattle.std.proofs.Common.{◌≡◌, ◌+◌, ◌^◌, ◌≤◌, ◌++◌, drop, length}
+use Rattle.std.proofs.Common.{◌≡◌, ◌+◌, ◌^◌, ◌≤◌, ◌++◌, length}
 use Rattle.std.specs.List.{AllByRecursion}
-use Rattle.gc_prod.specs.Products.{moves}
-use Rattle.gc_search.specs.Arrivals.{extensions}
+use Rattle.gc_prod.specs.Products.{bundles, moves}
+use Rattle.gc_search.proofs.BundleLaws.{moves_from, grown}
 use Rattle.gc_search.proofs.settling.all_extended.Given as goal
 
-abbrev pub invariant-loop-i : goal.invariant-loop-i
-invariant-loop-i g l = record {
-  exact : l.more.items ++ extensions l.p l.last (drop l.i (moves l.p l.last.at.node l.last.at.state))
-      ≡ extensions l.p l.last (moves l.p l.last.at.node l.last.at.state);
+abbrev pub invariant-loop-j : goal.invariant-loop-j
+invariant-loop-j g l = record {
+  exact : l.more.items ++ grown l.p l.settled l.k l.last (moves_from (bundles l.p l.last.at.node l.last.at.state) l.j)
+      ≡ grown l.p l.settled l.k l.last (moves l.p l.last.at.node l.last.at.state);
   small : AllByRecursion (λ a. a.cost ≤ l.last.cost + 2 ^ 64) l.more.items;
-  few : l.steps + length (drop l.i (moves l.p l.last.at.node l.last.at.state)) ≤ l.initial.steps + length (moves l.p l.last.at.node l.last.at.state);
+  few : l.steps + length (moves_from (bundles l.p l.last.at.node l.last.at.state) l.j) ≤ l.initial.steps + length (moves l.p l.last.at.node l.last.at.state);
 }

@@ -1,47 +1,48 @@
-use Rattle.std.proofs.Common.{◌≡◌, suc, ◌-◌, get_or, arith, subst}
-use Rattle.gc_search.specs.Chains.{IsAt, Listing, list_of}
-use Rattle.gc_search.proofs.ChainLaws.{left_next, less_next, seen_next}
-use Rattle.gc_search.proofs.LoopLaws.{at_from_read, seen_yes}
+use Rattle.std.proofs.Common.{◌≡◌, List, length, get_or, ap, subst, arith, ◌∙◌}
+use Rattle.gc_search.specs.Arrivals.{FoundWalk, arrivals_at}
+use Rattle.gc_search.specs.Places.{places_from}
+use Rattle.gc_search.proofs.LoopLaws.{edges_there, edges_later, edges_none}
+use Rattle.gc_search.proofs.PlaceLaws.{places_count, read_place, read_below, read_walk}
 use Rattle.gc_search.proofs.settled.Settled.is_seen.Goals as goal
 
-pub returns-then-is_same : goal.returns-then-is_same
-returns-then-is_same c =
-    let s = c.args.self.now in
-    let i = c.loop-left.left - 1 in
-    let a = c.index.result.now in
-    seen_yes s.walks i a c.args.next.now (omega (arith, c.loop-left-test.true, c.loop-left.invariant.chain.within))
-    (subst (λ (v : Listing). a ≡ get_or v.walks i a) c.self.view_is c.index.ensures) c.if-is_same.ensures
+pub index-requires : goal.index-requires
+index-requires c =
+    let walks = c.args.self.now in
+    let q = c.args.next.now.at in
+    let i = c.loop-i.i in
+    let places = c.places_at-places.result.now in
+    let are : places ≡ places_from 0 walks q = c.places_at-places.ensures ∙ ap (λ (a : FoundWalk). places_from 0 walks a.at) c.next.view_is in
+    let below = read_below walks (arrivals_at walks q) i (get_or places i 0) (read_place walks q places i 0 are c.loop-i-test.true) in
+    let is : c.self.inside.walks.items ≡ walks = c.self.view_is in
+    omega (arith, below, ap length is, c.self.inside.walks.ok)
 
-pub loop-left-smaller : goal.loop-left-smaller
-loop-left-smaller c =
-    let s = c.args.self.now in
-    let k = c.first-left.ensures.listed.chained in
-    let inv = c.loop-left.invariant in
-    let left = c.loop-left.left in
-    let i = left - 1 in
-    let a = c.index.result.now in
-    let x = c.index-left.result.now in
-    let n : left ≡ suc i = omega (arith, c.loop-left-test.true) in
-    let there : IsAt s.walks i a = at_from_read s.walks i a (omega (arith, n, inv.chain.within)) (subst (λ (v : Listing). a ≡ get_or v.walks i a) c.self.view_is c.index.ensures) in
-    let link : IsAt s.earlier i x =
-    at_from_read s.earlier i x (omega (arith, n, inv.chain.within, k.links)) (subst (λ (v : Listing). x ≡ get_or v.earlier i x) c.self.view_is c.index-left.ensures) in
-    less_next (list_of s) s.walks s.heads s.earlier k c.args.next.now.at left i x a inv.chain n there link
-
-pub loop-left-preserved : goal.loop-left-preserved
-loop-left-preserved c =
-    let s = c.args.self.now in
-    let k = c.first-left.ensures.listed.chained in
-    let inv = c.loop-left.invariant in
-    let left = c.loop-left.left in
-    let i = left - 1 in
-    let a = c.index.result.now in
-    let x = c.index-left.result.now in
-    let n : left ≡ suc i = omega (arith, c.loop-left-test.true) in
-    let there : IsAt s.walks i a = at_from_read s.walks i a (omega (arith, n, inv.chain.within)) (subst (λ (v : Listing). a ≡ get_or v.walks i a) c.self.view_is c.index.ensures) in
-    let link : IsAt s.earlier i x =
-    at_from_read s.earlier i x (omega (arith, n, inv.chain.within, k.links)) (subst (λ (v : Listing). x ≡ get_or v.earlier i x) c.self.view_is c.index-left.ensures) in
+pub returns-then-has_edges_of : goal.returns-then-has_edges_of
+returns-then-has_edges_of c =
+    let walks = c.args.self.now in
     let next = c.args.next.now in
-    record {
-      chain = left_next (list_of s) s.walks s.heads s.earlier k next.at left i x a inv.chain n there link;
-      rest = λ seen. seen_next (list_of s) s.walks s.heads s.earlier k next left i x a inv.chain n there link c.if-is_same.ensures (inv.rest seen);
-    }
+    let i = c.loop-i.i in
+    let places = c.places_at-places.result.now in
+    let x = c.index.result.now in
+    let are : places ≡ places_from 0 walks next.at = c.places_at-places.ensures ∙ ap (λ (a : FoundWalk). places_from 0 walks a.at) c.next.view_is in
+    let s = read_place walks next.at places i 0 are c.loop-i-test.true in
+    let here = read_walk walks (arrivals_at walks next.at) i (get_or places i 0) s x (subst (λ (l : List FoundWalk). x ≡ get_or l (get_or places i 0) x) c.self.view_is c.index.ensures) in
+    edges_there (arrivals_at walks next.at) i x next here c.if-has_edges_of.ensures
+
+pub loop-i-preserved : goal.loop-i-preserved
+loop-i-preserved c = λ seen.
+    let walks = c.args.self.now in
+    let next = c.args.next.now in
+    let i = c.loop-i.i in
+    let places = c.places_at-places.result.now in
+    let x = c.index.result.now in
+    let are : places ≡ places_from 0 walks next.at = c.places_at-places.ensures ∙ ap (λ (a : FoundWalk). places_from 0 walks a.at) c.next.view_is in
+    let s = read_place walks next.at places i 0 are c.loop-i-test.true in
+    let here = read_walk walks (arrivals_at walks next.at) i (get_or places i 0) s x (subst (λ (l : List FoundWalk). x ≡ get_or l (get_or places i 0) x) c.self.view_is c.index.ensures) in
+    edges_later (arrivals_at walks next.at) i x next here c.if-has_edges_of.ensures (c.loop-i.invariant seen)
+
+pub returns : goal.returns
+returns c = λ seen.
+    let walks = c.args.self.now in
+    let next = c.args.next.now in
+    let are : c.places_at-places.result.now ≡ places_from 0 walks next.at = c.places_at-places.ensures ∙ ap (λ (a : FoundWalk). places_from 0 walks a.at) c.next.view_is in
+    edges_none (arrivals_at walks next.at) c.loop-i.i next (omega (arith, ap length are, places_count 0 walks next.at, c.loop-i-test.false)) (c.loop-i.invariant seen)

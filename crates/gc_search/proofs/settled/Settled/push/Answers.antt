@@ -1,32 +1,25 @@
-use Rattle.std.proofs.Common.{◌≡◌, ◌+◌, ◌<◌, ◌++◌, ◌∷◌, [], ◌∙◌, List, ℕ, length, set, arith, ap, subst, sym}
+use Rattle.std.proofs.Common.{◌≡◌, ◌*◌, ◌<◌, ◌++◌, ◌∷◌, [], List, ℕ, length, get_or, set, Some, sym, ap, subst, arith, ◌∙◌}
+use Rattle.std.proofs.lemmas.List.{get_or_read}
 use Rattle.gc_search.specs.Arrivals.{FoundWalk}
-use Rattle.gc_search.specs.Chains.{IsAt, IsChained, list_in}
-use Rattle.gc_search.proofs.ChainLaws.{chained_more, set_length}
-use Rattle.gc_search.proofs.LoopLaws.{at_from_read}
+use Rattle.gc_search.specs.Places.{number_of, IsListed}
+use Rattle.gc_search.proofs.PlaceLaws.{listed_more}
 use Rattle.gc_search.proofs.settled.Settled.push.Goals as goal
 
 pub invariant_of-self-in-Ok : goal.invariant_of-self-in-Ok
 invariant_of-self-in-Ok c =
-    let of = list_in c.self.inside.nodes.now c.self.inside.width in
+    let nodes = c.self.inside.nodes.items in
+    let width = c.self.inside.width in
     let walks = c.self.inside.walks.items in
-    let heads = c.self.inside.heads.items in
-    let earlier = c.self.inside.earlier.items in
+    let places = c.self.inside.places.items in
+    let n = c.in-Some.number in
     let next = c.args.next in
-    let more = walks ++ next ∷ [] in
-    let list = c.list_number-list.result in
-    let x = c.index.result.now in
-    let is_list : list ≡ of next.at = c.list_number-list.ensures.exact ∙ ap (λ (a : FoundWalk). of a.at) c.next.view_is in
-    let within : list < length heads = omega (arith, c.list_number-list.ensures.within, c.self.invariant.size) in
-    let there : IsAt heads (of next.at) x = subst (λ n. IsAt heads n x) is_list (at_from_read heads list x within c.index.ensures) in
-    let count : c.len.result ≡ length walks + 1 = omega (arith, c.len.ensures, c.in-Ok.ensures.len, c.self.inside.walks.ok) in
-    record {
-      ascend = c.self.invariant.ascend;
-      some = c.self.invariant.some;
-      size = set_length heads list c.len.result ∙ c.self.invariant.size;
-      chained =
-          subst (λ (l : List ℕ). IsChained of c.push-2.new.self.items (set heads list c.len.result) l) (sym c.in_ok-push.ensures.items)
-          (subst (λ (l : List FoundWalk). IsChained of l (set heads list c.len.result) (earlier ++ x ∷ [])) (sym c.in-Ok.ensures.items)
-          (subst (λ n. IsChained of more (set heads list n) (earlier ++ x ∷ [])) (sym count)
-          (subst (λ n. IsChained of more (set heads n (length walks + 1)) (earlier ++ x ∷ [])) (sym is_list)
-          (chained_more of walks next heads earlier x c.self.invariant.chained there))));
-    }
+    let old = c.index_mut.result.now in
+    let number : number_of nodes width next.at ≡ Some n =
+    sym (c.in-Some.ensures.exact ∙ (ap (λ (l : List ℕ). number_of l width c.next.inside.at) c.deref.ensures.value ∙ ap (λ (a : FoundWalk). number_of nodes width a.at) c.next.view_is)) in
+    let same : length c.deref.result.now * width ≡ length nodes * width = ap (λ (l : List ℕ). length l * width) c.deref.ensures.value in
+    let within : n < length places = omega (arith, c.in-Some.ensures.within, c.self.invariant.size, same) in
+    let place : c.len-place.result ≡ length walks = omega (arith, c.len-place.ensures, c.self.inside.walks.ok) in
+    let are : c.push-2.new.self ≡ get_or places n [] ++ length walks ∷ [] =
+    c.in-Ok.ensures.ok ∙ (ap (λ (l : List ℕ). l ++ c.len-place.result ∷ []) (get_or_read places n old within c.index_mut.ensures.value []) ∙ ap (λ m. get_or places n [] ++ m ∷ []) place) in
+    subst (λ (l : List FoundWalk). IsListed nodes width l (set places n c.push-2.new.self)) (sym c.in_ok-push.ensures.items)
+    (subst (λ (l : List ℕ). IsListed nodes width (walks ++ next ∷ []) (set places n l)) (sym are) (listed_more nodes width walks places c.self.invariant next n number within))
