@@ -1,6 +1,7 @@
 pub mod BundleLaws
 pub mod FanLaws
 pub mod GoesLaws
+pub mod GroupLaws
 pub mod HopCounts
 pub mod HopLists
 pub mod KeyRuns
@@ -8,3 +9,4 @@ pub mod LeadLaws
 pub mod Members
 pub mod MoveLaws
 pub mod Networks
+pub mod PlaceLaws

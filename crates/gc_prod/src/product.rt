@@ -12,9 +12,10 @@ ghost use Rattle.gc_prod.specs.Products.{moved, moves_by};
 ghost use Rattle.gc_prod.specs.Segments.{AreSegments};
 ghost use Rattle.gc_prod.specs.SymbolHops.{segment_steps};
 
-use crate::keyed::ByKey;
+use crate::by_number::ByNumber;
 use crate::moves::{Hop, Move};
-use crate::preparing::{Fan, Leg, legs};
+use crate::places::place_of;
+use crate::preparing::{Fan, Leg, by_state, legs};
 use crate::segment::{Segment, SegmentList};
 use gc_automata::Automaton;
 use gc_base::{Id, Memory, Step, Steps};
@@ -45,7 +46,7 @@ pub struct Product<'a> {
     automaton: &'a Automaton,
     segments: &'a SegmentList,
     nodes: Vec<Id>,
-    legs: ByKey<Leg>,
+    legs: ByNumber<Leg>,
     fans: Vec<Fan>,
     width: usize,
 }
@@ -79,9 +80,9 @@ impl<'a> Product<'a> {
     {
         let nodes = node_list(alloc, graph, steps)?;
         let mut fans = Vec::new(alloc);
-        let legs = legs(alloc, graph, automaton, segments, &mut fans, steps)?;
-        let legs = ByKey::of(legs)?;
-        let width = width_of(automaton.states(), legs.as_slice());
+        let list = legs(alloc, graph, automaton, segments, &nodes, &mut fans, steps)?;
+        let width = width_of(automaton.states(), &list);
+        let legs = by_state(alloc, &list, width)?;
         Ok(Product {
             graph,
             automaton,
@@ -141,7 +142,7 @@ impl<'a> Product<'a> {
     pub fn bundle_count(&self, state: u32) -> usize
         ensures { (node : ℕ) → result ≡ length (bundles self.now node state) }
     {
-        self.legs.at(u64::from(state)).len()
+        self.legs.at(state as usize).len()
     }
 
     /// The hops from a node along the j-th of the transitions that leave a state. Each hop takes a
@@ -176,7 +177,8 @@ impl<'a> Product<'a> {
         ensures exact { result ≡ slice_get (moves self.now node state) i }
         ensures step { steps.new ≡ steps.old + handed_out result }
     {
-        let found = nth_move(&self.fans, self.legs.at(u64::from(state)), node, i);
+        let place = place_of(&self.nodes, node);
+        let found = nth_move(&self.fans, self.legs.at(state as usize), place, i);
         if found.is_some() {
             steps.tick();
         }
@@ -189,31 +191,33 @@ impl<'a> Product<'a> {
         ensures exact { slice_get (bundles self.now node state) j ≡ Some result }
         ensures network { IsNetwork self.now.network }
     {
-        let legs = self.legs.at(u64::from(state));
-        along(&self.fans, node, legs[j])
+        let place = place_of(&self.nodes, node);
+        let legs = self.legs.at(state as usize);
+        along(&self.fans, place, legs[j])
     }
 }
 
-// A number above the states to which some legs lead, and at least the given one.
+// A number above the states between which some legs lead, and at least the given one.
 fn width_of(states: u32, legs: &[Leg]) -> usize
     ensures states { states ≤ result }
     ensures some { 0 < result }
     ensures above { AllByRecursion (λ leg. leg.to < result) legs.now }
+    ensures left { AllByRecursion (λ leg. leg.from < result) legs.now }
 {
     let mut width = (states as usize).max(1);
     for leg in legs {
-        width = width.max(leg.to as usize + 1);
+        width = width.max(leg.from.max(leg.to) as usize + 1);
     }
     width
 }
 
-// The i-th move from a node along some legs.
-fn nth_move(fans: &[Fan], legs: &[Leg], node: Id, i: usize) -> Option<Move>
-    ensures { result ≡ slice_get (flat_map moves_by (map (leg_bundle fans.now node) legs.now)) i }
+// The i-th move from the node at a place along some legs.
+fn nth_move(fans: &[Fan], legs: &[Leg], place: usize, i: usize) -> Option<Move>
+    ensures { result ≡ slice_get (flat_map moves_by (map (leg_bundle fans.now place) legs.now)) i }
 {
     let mut left = i;
     for leg in legs {
-        let bundle = along(fans, node, *leg);
+        let bundle = along(fans, place, *leg);
         if left < bundle.hops.len() {
             return Some(move_by(bundle.state, bundle.hops[left]));
         }
@@ -233,16 +237,16 @@ fn move_by(state: u32, hop: Hop) -> Move
     }
 }
 
-// The hops from a node along a leg.
-fn along(fans: &[Fan], node: Id, leg: Leg) -> Bundle<'_>
-    ensures { result ≡ leg_bundle fans.now node leg }
+// The hops from the node at a place along a leg.
+fn along(fans: &[Fan], place: usize, leg: Leg) -> Bundle<'_>
+    ensures { result ≡ leg_bundle fans.now place leg }
 {
     let state = leg.to;
     match fans.get(leg.fan) {
         None => Bundle { state, hops: &[] },
         Some(fan) => Bundle {
             state,
-            hops: fan.hops.at(node.get()),
+            hops: fan.hops.at(place),
         },
     }
 }
