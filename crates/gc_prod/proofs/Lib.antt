@@ -5,6 +5,7 @@ pub mod GroupLaws
 pub mod HopCounts
 pub mod HopLists
 pub mod KeyRuns
+pub mod LandingLaws
 pub mod LeadLaws
 pub mod Members
 pub mod MoveLaws

@@ -98,3 +98,8 @@ module _ {X : Type 0} (node_of : X → ℕ) (nodes : List ℕ) where
   at_place node [] all = refl
   at_place node (x ∷ xs) all =
       ap₂ (λ b l. cond b (x ∷ l) l) (one_place nodes (node_of x) node all.0) (at_place node xs all.1)
+
+  -- at the places of nodes stand these nodes
+  pub places_back : (xs : List X) → AllByRecursion (λ x. is_among nodes (node_of x) ≡ true) xs → map (λ n. get_or nodes n 0) (map (λ x. place_in nodes (node_of x)) xs) ≡ map node_of xs
+  places_back [] all = refl
+  places_back (x ∷ xs) all = ap₂ (λ n l. n ∷ l) (place_there nodes (node_of x) all.0).at (places_back xs all.1)

@@ -13,6 +13,7 @@ use Rattle.gc_prod.specs.declared.preparing.Fan.{Fan}
 use Rattle.gc_prod.specs.declared.preparing.Leg.{Leg}
 use Rattle.gc_prod.specs.Groups.{Grouped, row_of}
 use Rattle.gc_prod.specs.Keys.{at_key}
+use Rattle.gc_prod.specs.Landings.{Landing}
 use Rattle.gc_prod.specs.Places.{place_in}
 use Rattle.gc_prod.specs.Products.{Setting, Bundle, bundles}
 use Rattle.gc_prod.specs.Segments.{AreSegments}
@@ -49,6 +50,13 @@ IsFan network transitions fan = (on : On) → symbol_at transitions fan.symbol �
 abbrev pub fan_at : List Fan → ℕ → Grouped Hop
 fan_at fans i = option_map_or (λ fan. fan.hops) (slice_get fans i) (record { items = []; starts = [] })
 
+-- a fan tells the places of the nodes to which its hops lead
+abbrev pub HasTargets : List ℕ → Fan → Type 0
+HasTargets nodes fan = (place : ℕ) → row_of fan.targets place ≡ map (λ h. place_in nodes h.to) (row_of fan.hops place)
+
+abbrev pub targets_at : List Fan → ℕ → Grouped ℕ
+targets_at fans i = option_map_or (λ fan. fan.targets) (slice_get fans i) (record { items = []; starts = [] })
+
 -- there is a fan of the symbol at this number, and the fans before are as they were
 pub record HasFan (network : Network) (transitions : List Transition) (on : On) (before after : List Fan) (i : ℕ) : Type 0 where
   pub within : i < length after
@@ -65,12 +73,17 @@ leg_bundle fans place leg = record { state = leg.to; hops = row_of (fan_at fans 
 abbrev pub leg_bundles : List Fan → List Leg → ℕ → ℕ → List Bundle
 leg_bundles fans legs place state = map (leg_bundle fans place) (at_key (λ leg. leg.from) state legs)
 
+-- where the hops lead from the node at a place along a leg
+abbrev pub leg_landing : List Fan → ℕ → Leg → Landing
+leg_landing fans place leg = record { state = leg.to; places = row_of (targets_at fans leg.fan) place }
+
 -- what a product keeps is right
 pub record IsPrepared (setting : Setting) (nodes : List ℕ) (legs : Grouped Leg) (fans : List Fan) (width : ℕ) : Type 0 where
   pub graph : IsGraph setting.network.graph
   pub segments : AreSegments setting.network.graph setting.network.segments
   pub ids : nodes ≡ node_ids setting.network.graph.nodes
   pub led : (node state : ℕ) → map (leg_bundle fans (place_in nodes node)) (row_of legs state) ≡ bundles setting node state
+  pub targets : AllByRecursion (HasTargets nodes) fans
   pub states : setting.machine.states ≤ width
   pub some : 0 < width
   pub above : (state : ℕ) → AllByRecursion (λ leg. leg.to < width) (row_of legs state)

@@ -18,5 +18,5 @@ pub use keyed::{ByKey, Keyed};
 pub use laws::moves_make_the_runs;
 pub use moves::{By, Hop, Move, Pair, Run, RunMove};
 pub use places::place_of;
-pub use product::{Bundle, Product};
+pub use product::{Bundle, Landing, Product};
 pub use segment::{Segment, SegmentList, SegmentTable, SegmentsOn};

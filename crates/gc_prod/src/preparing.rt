@@ -7,7 +7,7 @@ ghost use Rattle.gc_automata.specs.Moves.{IsNetwork};
 ghost use Rattle.gc_prod.specs.Groups.{row_of};
 ghost use Rattle.gc_prod.specs.Keys.{at_key};
 ghost use Rattle.gc_prod.specs.Places.{place_in};
-ghost use Rattle.gc_prod.specs.Preparing.{same_symbol, symbol_at, is_fan_of, IsFan, HasFan, leg_bundles};
+ghost use Rattle.gc_prod.specs.Preparing.{same_symbol, symbol_at, is_fan_of, IsFan, HasFan, HasTargets, leg_bundles};
 ghost use Rattle.gc_prod.specs.Products.{bundles};
 
 use crate::by_number::ByNumber;
@@ -21,12 +21,13 @@ use gc_ppg::Graph;
 use std::alloc::Global;
 use std::sync::ledger::Ledger;
 
-// The hops along the symbol of a transition, by the place of the node from which they lead.
-// Transitions of one symbol share a fan.
+// The hops along the symbol of a transition, by the place of the node from which they lead, and
+// beside them the places of the nodes to which they lead. Transitions of one symbol share a fan.
 #[derive(Drop)]
 pub(crate) struct Fan {
     pub(crate) symbol: u32,
     pub(crate) hops: ByNumber<Hop>,
+    pub(crate) targets: ByNumber<usize>,
 }
 
 // A transition, with the number of its fan.
@@ -51,8 +52,9 @@ pub(crate) fn legs<L: Ledger>(
     requires network { IsNetwork (record { graph = graph.now; segments = segments.now }) }
     requires nodes { nodes.now ≡ node_ids graph.now.nodes }
     requires ascend { Ascends nat_cmp nodes.now }
-    ensures { IfOk result (λ legs. (node state : ℕ) → leg_bundles fans.new.items legs.items (place_in nodes.now node) state
+    ensures led { IfOk result (λ legs. (node state : ℕ) → leg_bundles fans.new.items legs.items (place_in nodes.now node) state
         ≡ bundles (record { network = record { graph = graph.now; segments = segments.now }; machine = automaton.now }) node state) }
+    ensures targets { IfOk result (λ legs. AllByRecursion (HasTargets nodes.now) fans.new.items) }
 {
     let mut legs = Vec::new(alloc);
     for i in 0..u32::MAX {
@@ -89,15 +91,22 @@ fn fan_for<L: Ledger>(
     requires ascend { Ascends nat_cmp nodes.now }
     requires symbol { symbol_at automaton.now.transitions i ≡ Some on.now }
     requires fans { AllByRecursion (IsFan (record { graph = graph.now; segments = segments.now }) automaton.now.transitions) fans.old.items }
-    ensures { IfOk result (HasFan (record { graph = graph.now; segments = segments.now }) automaton.now.transitions on.now fans.old.items fans.new.items) }
+    requires targets { AllByRecursion (HasTargets nodes.now) fans.old.items }
+    ensures fan { IfOk result (HasFan (record { graph = graph.now; segments = segments.now }) automaton.now.transitions on.now fans.old.items fans.new.items) }
+    ensures targets { IfOk result (λ i. AllByRecursion (HasTargets nodes.now) fans.new.items) }
 {
     if let Some(known) = known_fan(automaton, on, fans) {
         return Ok(known);
     }
     let all = symbol_hops(alloc, graph, segments, on, steps)?;
     let hops = by_node(alloc, nodes, &all)?;
+    let targets = targets_of(alloc, nodes, &hops)?;
     let next = fans.len();
-    fans.push(Fan { symbol: i, hops })?;
+    fans.push(Fan {
+        symbol: i,
+        hops,
+        targets,
+    })?;
     Ok(next)
 }
 
@@ -119,6 +128,26 @@ fn places_left(alloc: Global, nodes: &[Id], hops: &[Hop]) -> Result<Vec<usize>, 
     let mut places = Vec::with_capacity(alloc, hops.len())?;
     for hop in hops {
         places.push(place_of(nodes, hop.from))?;
+    }
+    Ok(places)
+}
+
+// The places of the nodes to which hops lead, beside these.
+fn targets_of(alloc: Global, nodes: &[Id], hops: &ByNumber<Hop>) -> Result<ByNumber<usize>, Memory>
+    requires { Ascends nat_cmp nodes.now }
+    ensures { IfOk result (λ targets. (place : ℕ) → row_of targets place ≡ map (λ h. place_in nodes.now h.to) (row_of hops.now place)) }
+{
+    let places = places_reached(alloc, nodes, hops.as_slice())?;
+    hops.beside(alloc, places)
+}
+
+fn places_reached(alloc: Global, nodes: &[Id], hops: &[Hop]) -> Result<Vec<usize>, Memory>
+    requires { Ascends nat_cmp nodes.now }
+    ensures { IfOk result (λ places. places.items ≡ map (λ h. place_in nodes.now h.to) hops.now) }
+{
+    let mut places = Vec::with_capacity(alloc, hops.len())?;
+    for hop in hops {
+        places.push(place_of(nodes, hop.to))?;
     }
     Ok(places)
 }

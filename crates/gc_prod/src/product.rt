@@ -1,4 +1,4 @@
-ghost use Rattle.std.specs.Prelude.{◌≡◌, ◌+◌, ◌<◌, IfOk, slice_get, length, Some, map};
+ghost use Rattle.std.specs.Prelude.{◌≡◌, ◌+◌, ◌<◌, IfOk, slice_get, slice_index, length, Some, map};
 ghost use Rattle.std.specs.Prelude.{◌≤◌, ℕ};
 ghost use Rattle.std.specs.List.{AllByRecursion, flat_map};
 ghost use Rattle.std.specs.Option.{option_copied};
@@ -7,7 +7,8 @@ ghost use Rattle.gc_base.specs.Ascending.{Ascends};
 ghost use Rattle.gc_spec.specs.PropertyGraph.{IsGraph, node_ids};
 ghost use Rattle.gc_automata.specs.Moves.{IsNetwork, IsThere};
 ghost use Rattle.gc_ppg.specs.Reads.{handed_out};
-ghost use Rattle.gc_prod.specs.Preparing.{leg_bundle};
+ghost use Rattle.gc_prod.specs.Landings.{Lands};
+ghost use Rattle.gc_prod.specs.Preparing.{leg_bundle, leg_landing};
 ghost use Rattle.gc_prod.specs.Products.{moved, moves_by};
 ghost use Rattle.gc_prod.specs.Segments.{AreSegments};
 ghost use Rattle.gc_prod.specs.SymbolHops.{segment_steps};
@@ -37,6 +38,21 @@ impl<'a> Model for Bundle<'a> {
     ghost Value = { BundleAlone };
 
     ghost view = { λ b. record { state = b.state; hops = b.hops.now } };
+}
+
+/// The places of the nodes to which a bundle of hops leads, and the state to which that leads.
+#[derive(Drop)]
+pub struct Landing<'a> {
+    pub state: u32,
+    pub places: &'a [usize],
+}
+
+impl<'a> Model for Landing<'a> {
+    ghost use Rattle.gc_prod.specs.Landings.{Landing as LandingAlone};
+
+    ghost Value = { LandingAlone };
+
+    ghost view = { λ l. record { state = l.state; places = l.places.now } };
 }
 
 /// A graph times an automaton, with segments of PATH views. Contracts see these three alone.
@@ -164,6 +180,26 @@ impl<'a> Product<'a> {
         bundle
     }
 
+    /// Where the hops lead from the node at a place along the j-th of the transitions that leave a
+    /// state: what the bundle says, by the places of the nodes. Each hop takes a step.
+    pub fn landing<L: Ledger>(
+        &self,
+        place: usize,
+        state: u32,
+        j: usize,
+        steps: &mut Steps<L>,
+    ) -> Landing<'_>
+        requires place { place < length (node_ids self.now.network.graph.nodes) }
+        requires leg { j < length (bundles self.now (slice_index (node_ids self.now.network.graph.nodes) place) state) }
+        ensures exact { Lands self.now place state j result }
+        ensures within { AllByRecursion (λ p. p < length (node_ids self.now.network.graph.nodes)) result.places }
+        ensures step { steps.new ≡ steps.old + length result.places }
+    {
+        let landing = self.landing_at(place, state, j);
+        count(landing.places.len(), steps);
+        landing
+    }
+
     /// The i-th move of a pair of a node and a state, or `None` exactly past the last. The moves of a
     /// pair are ordered by the state moved to, and then by the number of the edge or segment. A move
     /// takes one step, and `None` takes none.
@@ -194,6 +230,17 @@ impl<'a> Product<'a> {
         let place = place_of(&self.nodes, node);
         let legs = self.legs.at(state as usize);
         along(&self.fans, place, legs[j])
+    }
+
+    // Where the hops lead along a transition, uncounted.
+    fn landing_at(&self, place: usize, state: u32, j: usize) -> Landing<'_>
+        requires place { place < length (node_ids self.now.network.graph.nodes) }
+        requires leg { j < length (bundles self.now (slice_index (node_ids self.now.network.graph.nodes) place) state) }
+        ensures exact { Lands self.now place state j result }
+        ensures within { AllByRecursion (λ p. p < length (node_ids self.now.network.graph.nodes)) result.places }
+    {
+        let legs = self.legs.at(state as usize);
+        landed(&self.fans, place, legs[j])
     }
 }
 
@@ -247,6 +294,20 @@ fn along(fans: &[Fan], place: usize, leg: Leg) -> Bundle<'_>
         Some(fan) => Bundle {
             state,
             hops: fan.hops.at(place),
+        },
+    }
+}
+
+// Where the hops lead from the node at a place along a leg.
+fn landed(fans: &[Fan], place: usize, leg: Leg) -> Landing<'_>
+    ensures { result ≡ leg_landing fans.now place leg }
+{
+    let state = leg.to;
+    match fans.get(leg.fan) {
+        None => Landing { state, places: &[] },
+        Some(fan) => Landing {
+            state,
+            places: fan.targets.at(place),
         },
     }
 }

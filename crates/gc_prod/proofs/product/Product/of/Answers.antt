@@ -6,7 +6,7 @@ use Rattle.gc_base.proofs.SetLaws.{AllByRecursion-filter}
 use Rattle.gc_prod.specs.declared.preparing.Leg.{Leg}
 use Rattle.gc_prod.specs.Keys.{at_key}
 use Rattle.gc_prod.specs.Places.{place_in}
-use Rattle.gc_prod.specs.Preparing.{leg_bundle, leg_bundles}
+use Rattle.gc_prod.specs.Preparing.{HasTargets, leg_bundle, leg_bundles}
 use Rattle.gc_prod.proofs.Networks.{ids_ascend, network_is}
 use Rattle.gc_prod.proofs.product.Product.of.Goals as goal
 
@@ -32,7 +32,8 @@ invariant_of-result g c =
       ids = c.in_ok-nodes.ensures.exact;
       led = λ node state.
           ap (map (leg_bundle fans (place_in nodes node))) (c.in_ok-legs.ensures state ∙ ap (λ (ls : List Leg). at_key (λ leg. leg.from) state ls) c.deref-3.ensures.value)
-          ∙ (ap (λ ids. leg_bundles fans list (place_in ids node) state) (sym c.deref.ensures.value) ∙ c.in_ok-list.ensures node state);
+          ∙ (ap (λ ids. leg_bundles fans list (place_in ids node) state) (sym c.deref.ensures.value) ∙ c.in_ok-list.ensures.led node state);
+      targets = subst (λ (ids : List ℕ). AllByRecursion (HasTargets ids) fans) c.deref.ensures.value c.in_ok-list.ensures.targets;
       states = subst (λ n. n ≤ width) c.states.ensures c.width_of-width.ensures.states;
       some = c.width_of-width.ensures.some;
       above = λ state.
