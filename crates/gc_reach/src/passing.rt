@@ -66,8 +66,8 @@ fn passed_steps(
     ensures { IfOk result (λ passed. passed.items ≡ steps_into p.now marks.now.nodes marks.now.width kept.now marks.now.pairs) }
 {
     let mut passed = Vec::new(alloc);
-    for at in marks.pairs() {
-        let number = marks.number(at.node, at.state);
+    for spot in marks.spots() {
+        let number = marks.number_at(*spot);
         add_steps(p, kept.at(number), &mut passed)?;
     }
     Ok(passed)

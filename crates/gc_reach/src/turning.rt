@@ -99,8 +99,8 @@ pub(crate) fn keep<L: Ledger>(
     ensures few { steps.new ≤ steps.old + most_moves p.now }
 {
     let mut kept = Vec::new(alloc);
-    for from in marks.pairs() {
-        keep_pair(p, from, marks, &mut kept, steps)?;
+    for spot in marks.spots() {
+        keep_pair(p, &marks.pair(*spot), marks, &mut kept, steps)?;
     }
     Ok(kept)
 }
@@ -135,7 +135,7 @@ pub(crate) fn settle_back(
     marks.mark(node, state)?;
     let mut i = 0;
     while let Some(at) = marks.at(i) {
-        let number = marks.number(at.node, at.state);
+        let number = marks.number_at(at);
         go_back(kept.at(number), marks)?;
         i += 1;
     }

@@ -27,7 +27,7 @@ settle_back-requires-clause-nodes g c =
     let kept = c.in_ok-kept.kept in
     let setting = c.args.p.now in
     let are = kept_are setting m.nodes m.width c.args.source m.pairs kept c.in_ok-settle.ensures.all
-    (subst (λ (m : Marking). AllByRecursion (IsNumbered m.nodes m.width) m.pairs) c.marks-2.view_is c.marks-2.invariant.numbered)
+    (subst (λ (m : Marking). AllByRecursion (IsNumbered m.nodes m.width) m.pairs) c.marks-2.view_is c.marks-2.invariant.marks.numbered)
     (λ key. c.in_ok-kept.ensures key ∙ ap (at_key (λ (t : Turn). t.number) key) c.in_ok-keep.ensures.exact) in
     let same : m.nodes ≡ c.in_ok-back.back.nodes =
     c.in_ok-settle.ensures.nodes ∙ (ap (λ (m : Marking). m.nodes) c.in_ok-mark.ensures ∙ (ap (λ (m : Marking). m.nodes) c.in_ok-marks.ensures ∙ sym (ap (λ (m : Marking). m.nodes) c.in_ok-back.ensures))) in
@@ -40,7 +40,7 @@ settle_back-requires-clause-states g c =
     let kept = c.in_ok-kept.kept in
     let setting = c.args.p.now in
     let are = kept_are setting m.nodes m.width c.args.source m.pairs kept c.in_ok-settle.ensures.all
-    (subst (λ (m : Marking). AllByRecursion (IsNumbered m.nodes m.width) m.pairs) c.marks-2.view_is c.marks-2.invariant.numbered)
+    (subst (λ (m : Marking). AllByRecursion (IsNumbered m.nodes m.width) m.pairs) c.marks-2.view_is c.marks-2.invariant.marks.numbered)
     (λ key. c.in_ok-kept.ensures key ∙ ap (at_key (λ (t : Turn). t.number) key) c.in_ok-keep.ensures.exact) in
     let wide : m.width ≡ c.in_ok-back.back.width =
     c.in_ok-settle.ensures.width ∙ (ap (λ (m : Marking). m.width) c.in_ok-mark.ensures ∙ (ap (λ (m : Marking). m.width) c.in_ok-marks.ensures ∙ sym (ap (λ (m : Marking). m.width) c.in_ok-back.ensures))) in
@@ -63,7 +63,7 @@ returns-clause-exact g c =
     let wide : m.width ≡ back.width =
     c.in_ok-settle.ensures.width ∙ (ap (λ (m : Marking). m.width) c.in_ok-mark.ensures ∙ (ap (λ (m : Marking). m.width) c.in_ok-marks.ensures
     ∙ (sym (ap (λ (m : Marking). m.width) c.in_ok-back.ensures) ∙ sym c.in_ok-settle_back.ensures.width))) in
-    let numbered = subst (λ (m : Marking). AllByRecursion (IsNumbered m.nodes m.width) m.pairs) c.marks-2.view_is c.marks-2.invariant.numbered in
+    let numbered = subst (λ (m : Marking). AllByRecursion (IsNumbered m.nodes m.width) m.pairs) c.marks-2.view_is c.marks-2.invariant.marks.numbered in
     let exact : (key : ℕ) → at_key (λ t. t.number) key kept ≡ at_key (λ t. t.number) key (turns setting m.nodes m.width m.pairs) =
     λ key. c.in_ok-kept.ensures key ∙ ap (at_key (λ (t : Turn). t.number) key) c.in_ok-keep.ensures.exact in
     let all : AreAll (targets setting) back.nodes (pair source 0) m.pairs = subst (λ (ids : List ℕ). AreAll (targets setting) ids (pair source 0) m.pairs) same c.in_ok-settle.ensures.all in
@@ -76,7 +76,7 @@ returns-clause-exact g c =
       node = ap (λ (ids : List ℕ). is_among ids target) (graph ∙ c.nodes-nodes.ensures.nodes) ∙ c.requires.target;
       state = omega (arith, is_last, c.width-width.ensures.states, c.width-width.ensures.some, c.in_ok-settle_back.ensures.width, ap (λ (m : Marking). m.width) c.in_ok-back.ensures);
     } in
-    let those = subst (λ (m : Marking). AllByRecursion (IsNumbered m.nodes m.width) m.pairs) c.back.view_is c.back.invariant.numbered in
+    let those = subst (λ (m : Marking). AllByRecursion (IsNumbered m.nodes m.width) m.pairs) c.back.view_is c.back.invariant.marks.numbered in
     let found = steps_between setting back.nodes back.width source m.pairs kept all c.nodes-nodes.ensures.network c.requires.source target last back.pairs are there c.in_ok-settle_back.ensures.all those in
     subst (λ n. AreStepsBetween setting (pair source 0) (pair target n) c.has_pair-some.result c.in_ok-steps.steps.items) is_last
     (subst (λ (b : Bool). AreStepsBetween setting (pair source 0) (pair target last) b c.in_ok-steps.steps.items) (sym c.has_pair-some.ensures)

@@ -5,7 +5,7 @@ use Rattle.gc_prod.specs.declared.moves.Pair.{Pair}
 use Rattle.gc_prod.specs.Leading.{pair}
 use Rattle.gc_reach.specs.declared.turning.Turn.{Turn}
 use Rattle.gc_reach.specs.Exploring.{AreFound, IsClosed}
-use Rattle.gc_reach.specs.Marking.{Marking, visit_all}
+use Rattle.gc_reach.specs.Marking.{Marking, pair_at, visit_all}
 use Rattle.gc_reach.specs.Turning.{before}
 use Rattle.gc_reach.proofs.FoundLaws.{found_more, closed_more}
 use Rattle.gc_reach.proofs.TurnLaws.{back_there}
@@ -19,14 +19,14 @@ loop-at-preserved c =
     let width = c.loop-at.marks.width in
     let pairs = c.loop-at.marks.pairs in
     let i = c.loop-at.i in
-    let at = c.in-Some.at in
+    let at = pair_at nodes c.in-Some.at in
     let kept = c.args.kept.now in
     let behind = before nodes width kept in
     let from = pair c.args.node c.args.state in
     let here : slice_get pairs i ≡ Some at = sym c.in-Some.ensures.exact in
     let same : nodes ≡ c.args.marks.now.nodes = inv.nodes ∙ ap (λ (m : Marking). m.nodes) c.in_ok-mark.ensures in
     let led : map (λ t. t.from) c.at-in-Some.result.now ≡ behind at =
-    ap (map (λ (t : Turn). t.from)) (c.at-in-Some.ensures ∙ ap (λ n. at_key (λ (t : Turn). t.number) n kept) c.number-number.ensures) in
+    ap (map (λ (t : Turn). t.from)) (c.at-in-Some.ensures ∙ ap (λ n. at_key (λ (t : Turn). t.number) n kept) c.number_at-number.ensures) in
     let after : Marking = record { nodes = nodes; width = width; pairs = visit_all pairs (behind at) } in
     let grown : c.go_back.new.marks ≡ after =
     c.in_ok-go_back.ensures ∙ ap (λ (l : List Pair). let m : Marking = record { nodes = nodes; width = width; pairs = visit_all pairs l } in m) led in
