@@ -62,6 +62,13 @@ impl<'a> Marks<'a> {
         })
     }
 
+    // How many pairs there may be.
+    pub(crate) fn size(&self) -> usize
+        ensures { result ≡ length self.now.nodes * self.now.width }
+    {
+        self.marked.len()
+    }
+
     // The i-th pair that was marked, by the place of its node. There are no more marked than there
     // may be.
     pub(crate) fn at(&self, i: usize) -> Option<Spot>
@@ -92,7 +99,7 @@ impl<'a> Marks<'a> {
     }
 
     // The number of the pair of a node and a state.
-    pub(crate) fn number(&self, node: Id, state: u32) -> u64
+    pub(crate) fn number(&self, node: Id, state: u32) -> usize
         requires node { is_among self.now.nodes node ≡ true }
         requires state { state < self.now.width }
         ensures { result ≡ number_of self.now.nodes self.now.width (pair node state) }
@@ -102,11 +109,11 @@ impl<'a> Marks<'a> {
     }
 
     // The number of the pair of the node at a place and a state.
-    pub(crate) fn number_at(&self, spot: Spot) -> u64
+    pub(crate) fn number_at(&self, spot: Spot) -> usize
         requires { IsSpot self.now.nodes self.now.width spot }
         ensures { result ≡ number_of self.now.nodes self.now.width (pair_at self.now.nodes spot) }
     {
-        (spot.place * self.width + spot.state as usize) as u64
+        spot.place * self.width + spot.state as usize
     }
 
     // Marks the pair of a node and a state, behind the others, where it is not marked yet.
