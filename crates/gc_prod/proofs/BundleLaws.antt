@@ -1,14 +1,14 @@
 -- What is so of every bundle: its hops lead to nodes, and it leads to a state below the width.
 use Rattle.std.proofs.Common.{◌≡◌, ℕ, zero, suc, ◌<◌, ◌==◌, List, [], ◌∷◌, map, Some, subst}
 use Rattle.std.specs.List.{AllByRecursion, Contains, slice_get}
-use Rattle.gc_base.proofs.SetLaws.{AllByRecursion-filter}
-use Rattle.gc_automata.specs.Moves.{IsNetwork, IsThere}
+use Rattle.gc_automata.specs.Moves.{Network, IsNetwork, IsThere}
+use Rattle.gc_automata.specs.declared.transition.On.{On}
 use Rattle.gc_automata.proofs.Lawful.{goes_lawful}
 use Rattle.gc_prod.specs.declared.moves.Hop.{Hop}
 use Rattle.gc_prod.specs.declared.preparing.Fan.{Fan}
 use Rattle.gc_prod.specs.declared.preparing.Leg.{Leg}
 use Rattle.gc_prod.specs.Keys.{at_key}
-use Rattle.gc_prod.specs.Preparing.{leg_bundle, leg_bundles}
+use Rattle.gc_prod.specs.Preparing.{leg_bundle}
 use Rattle.gc_prod.specs.Products.{Setting, Bundle, bundle_of, bundles, leaving}
 use Rattle.gc_prod.specs.SymbolHops.{hops}
 use Rattle.gc_prod.proofs.GoesLaws.{hop_goes}
@@ -24,14 +24,18 @@ pub all_from : {X : Type 0} (P : X → Type 0) (xs : List X) → ((x : X) → Co
 all_from P [] each = tt
 all_from P (x ∷ xs) each = (each x (here x xs), all_from P xs (λ y k. each y (there x xs y k)))
 
-all_map : {X Y : Type 0} (f : X → Y) (P : Y → Type 0) (xs : List X) → AllByRecursion (λ x. P (f x)) xs → AllByRecursion P (map f xs)
+pub all_map : {X Y : Type 0} (f : X → Y) (P : Y → Type 0) (xs : List X) → AllByRecursion (λ x. P (f x)) xs → AllByRecursion P (map f xs)
 all_map f P [] all = tt
 all_map f P (x ∷ xs) all = (all.0, all_map f P xs all.1)
 
-pub bundles_below : (fans : List Fan) (legs : List Leg) (width node state : ℕ) → AllByRecursion (λ leg. leg.to < width) legs → AllByRecursion (λ b. b.state < width) (leg_bundles fans legs node state)
-bundles_below fans legs width node state all =
-    all_map (leg_bundle fans node) (λ (b : Bundle). b.state < width) (at_key (λ leg. leg.from) state legs)
-    (AllByRecursion-filter (λ (leg : Leg). leg.to < width) (λ leg. leg.from == state) legs all)
+pub bundles_below : (fans : List Fan) (legs : List Leg) (width place : ℕ) → AllByRecursion (λ leg. leg.to < width) legs → AllByRecursion (λ b. b.state < width) (map (leg_bundle fans place) legs)
+bundles_below fans legs width place all = all_map (leg_bundle fans place) (λ (b : Bundle). b.state < width) legs all
+
+-- hops lead from nodes
+pub hops_start : (network : Network) → IsNetwork network → (on : On) → AllByRecursion (λ h. IsThere network h.from) (hops network on)
+hops_start network law on =
+    all_from (λ (h : Hop). IsThere network h.from) (hops network on)
+    (λ h k. let w = hop_goes network on h k in subst (IsThere network) w.starts ((goes_lawful network law on).starts w.walk h.cost w.goes))
 
 pub hops_there : (setting : Setting) → IsNetwork setting.network → (node state j : ℕ) (b : Bundle) → slice_get (bundles setting node state) j ≡ Some b → AllByRecursion (λ h. IsThere setting.network h.to) b.hops
 hops_there setting law node state j b at =

@@ -14,7 +14,11 @@ use Rattle.gc_automata.specs.declared.transition.On.TheVariants.{Empty, Label, B
 use Rattle.gc_automata.specs.declared.transition.Transition.{Transition}
 use Rattle.gc_prod.specs.declared.preparing.Fan.{Fan}
 use Rattle.gc_prod.specs.declared.preparing.Leg.{Leg}
+use Rattle.gc_spec.specs.PropertyGraph.{node_ids}
+use Rattle.gc_prod.specs.Groups.{Grouped, row_of}
 use Rattle.gc_prod.specs.Keys.{at_key}
+use Rattle.gc_prod.specs.Places.{place_in}
+use Rattle.gc_prod.specs.declared.moves.Hop.{Hop}
 use Rattle.gc_prod.specs.Preparing.{same_symbol, symbol_at, is_fan_of, AreHopsOf, IsFan, HasFan, leg_bundle, leg_bundles}
 use Rattle.gc_prod.specs.Products.{Bundle, bundle_of, leaving}
 use Rattle.gc_prod.proofs.HopLists.{left_at}
@@ -54,6 +58,9 @@ told : (on : On) (o : Option On) → option_map_or (same_symbol on) o false ≡ 
 told on None h = cc
 told on (Some other) h = ap Some (sym (same_exact on other h))
 
+abbrev none : Grouped Hop
+none = record { items = []; starts = [] }
+
 module _ (network : Network) (transitions : List Transition) (on : On) where
   -- a fan that is found has the hops
   pub known_is : (fans : List Fan) (k : ℕ) → position (is_fan_of transitions on) fans ≡ Some k → AllByRecursion (IsFan network transitions) fans
@@ -66,7 +73,7 @@ module _ (network : Network) (transitions : List Transition) (on : On) where
       let right : AreHopsOf network on here.hops = all_at (IsFan network transitions) (f ∷ fans) k here all is on (told on (symbol_at transitions here.symbol) at.1) in
       record {
         within = at.0;
-        right = λ node. ap (λ o. at_key (λ h. h.from) node (option_map_or (λ (g : Fan). g.hops) o [])) is ∙ right node;
+        right = λ node. ap (λ o. row_of (option_map_or (λ (g : Fan). g.hops) o none) (place_in (node_ids network.graph.nodes) node)) is ∙ right node;
         grows = omega arith;
         kept = λ j below. refl;
         fans = all;
@@ -77,7 +84,7 @@ module _ (network : Network) (transitions : List Transition) (on : On) where
       → HasFan network transitions on fans (fans ++ fan ∷ []) (length fans)
   pushed_is fans fan symbol right all = record {
     within = omega (arith, length-append fans (fan ∷ []));
-    right = λ node. ap (λ o. at_key (λ h. h.from) node (option_map_or (λ (g : Fan). g.hops) o [])) (slice_get-last fans fan) ∙ right node;
+    right = λ node. ap (λ o. row_of (option_map_or (λ (g : Fan). g.hops) o none) (place_in (node_ids network.graph.nodes) node)) (slice_get-last fans fan) ∙ right node;
     grows = omega (arith, length-append fans (fan ∷ []));
     kept = λ j below. slice_get-left fans (fan ∷ []) j below;
     fans = AllByRecursion-append (IsFan network transitions) fans (fan ∷ []) all
@@ -85,46 +92,50 @@ module _ (network : Network) (transitions : List Transition) (on : On) where
   }
 
 -- legs whose fans stay
-module _ (before after : List Fan) (node : ℕ) (kept : (j : ℕ) → j < length before → slice_get after j ≡ slice_get before j) where
-  leg_stays : (leg : Leg) → leg.fan < length before → leg_bundle after node leg ≡ leg_bundle before node leg
-  leg_stays leg within = ap (λ o. let b : Bundle = record { state = leg.to; hops = at_key (λ h. h.from) node (option_map_or (λ (g : Fan). g.hops) o []) } in b) (kept leg.fan within)
+module _ (before after : List Fan) (place : ℕ) (kept : (j : ℕ) → j < length before → slice_get after j ≡ slice_get before j) where
+  leg_stays : (leg : Leg) → leg.fan < length before → leg_bundle after place leg ≡ leg_bundle before place leg
+  leg_stays leg within = ap (λ o. let b : Bundle = record { state = leg.to; hops = row_of (option_map_or (λ (g : Fan). g.hops) o none) place } in b) (kept leg.fan within)
 
-  legs_stay : (state : ℕ) (legs : List Leg) → AllByRecursion (λ leg. leg.fan < length before) legs → leg_bundles after legs node state ≡ leg_bundles before legs node state
+  legs_stay : (state : ℕ) (legs : List Leg) → AllByRecursion (λ leg. leg.fan < length before) legs → leg_bundles after legs place state ≡ leg_bundles before legs place state
   legs_stay state [] all = refl
   legs_stay state (leg ∷ legs) all =
-      elim (leg.from == state) as (λ b. map (leg_bundle after node) (cond b (leg ∷ at_key (λ l. l.from) state legs) (at_key (λ l. l.from) state legs))
-      ≡ map (leg_bundle before node) (cond b (leg ∷ at_key (λ l. l.from) state legs) (at_key (λ l. l.from) state legs))) [
+      elim (leg.from == state) as (λ b. map (leg_bundle after place) (cond b (leg ∷ at_key (λ l. l.from) state legs) (at_key (λ l. l.from) state legs))
+      ≡ map (leg_bundle before place) (cond b (leg ∷ at_key (λ l. l.from) state legs) (at_key (λ l. l.from) state legs))) [
         | true ↦ ap₂ (λ x xs. x ∷ xs) (leg_stays leg all.0) (legs_stay state legs all.1)
         | false ↦ legs_stay state legs all.1
       ]
 
 -- one more leg, for one more transition
 module _ (network : Network) (transitions : List Transition) where
-  leg_is : (node state : ℕ) (fans : List Fan) (t : Transition) (ts : List Transition) (leg : Leg) → leg.from ≡ t.from → leg_bundle fans node leg ≡ bundle_of network node t
-      → leg_bundles fans (leg ∷ []) node state ++ map (bundle_of network node) (leaving state ts) ≡ map (bundle_of network node) (leaving state (t ∷ ts))
+  abbrev place_of : ℕ → ℕ
+  place_of node = place_in (node_ids network.graph.nodes) node
+
+  leg_is : (node state : ℕ) (fans : List Fan) (t : Transition) (ts : List Transition) (leg : Leg) → leg.from ≡ t.from → leg_bundle fans (place_of node) leg ≡ bundle_of network node t
+      → leg_bundles fans (leg ∷ []) (place_of node) state ++ map (bundle_of network node) (leaving state ts) ≡ map (bundle_of network node) (leaving state (t ∷ ts))
   leg_is node state fans t ts leg same is =
-      ap (λ n. map (leg_bundle fans node) (cond (n == state) (leg ∷ []) []) ++ map (bundle_of network node) (leaving state ts)) same
-      ∙ elim (t.from == state) as (λ b. map (leg_bundle fans node) (cond b (leg ∷ []) []) ++ map (bundle_of network node) (leaving state ts)
+      ap (λ n. map (leg_bundle fans (place_of node)) (cond (n == state) (leg ∷ []) []) ++ map (bundle_of network node) (leaving state ts)) same
+      ∙ elim (t.from == state) as (λ b. map (leg_bundle fans (place_of node)) (cond b (leg ∷ []) []) ++ map (bundle_of network node) (leaving state ts)
       ≡ map (bundle_of network node) (cond b (t ∷ leaving state ts) (leaving state ts))) [
         | true ↦ ap (λ x. x ∷ map (bundle_of network node) (leaving state ts)) is
         | false ↦ refl
       ]
 
-  both : (node state : ℕ) (fans : List Fan) (legs more : List Leg) → leg_bundles fans (legs ++ more) node state ≡ leg_bundles fans legs node state ++ leg_bundles fans more node state
-  both node state fans legs more = ap (map (leg_bundle fans node)) (filter-append (λ leg. leg.from == state) legs more) ∙ map-append (leg_bundle fans node) _ _
+  both : (place state : ℕ) (fans : List Fan) (legs more : List Leg) → leg_bundles fans (legs ++ more) place state ≡ leg_bundles fans legs place state ++ leg_bundles fans more place state
+  both place state fans legs more = ap (map (leg_bundle fans place)) (filter-append (λ leg. leg.from == state) legs more) ∙ map-append (leg_bundle fans place) _ _
 
   pub leg_more : (i k : ℕ) (t : Transition) (before after : List Fan) (legs : List Leg) (whole : ℕ → ℕ → List Bundle) → slice_get transitions i ≡ Some t
       → HasFan network transitions t.on before after k → AllByRecursion (λ leg. leg.fan < length before) legs
-      → ((node state : ℕ) → leg_bundles before legs node state ++ map (bundle_of network node) (leaving state (drop i transitions)) ≡ whole node state)
-      → (node state : ℕ) → leg_bundles after (legs ++ record { from = t.from; to = t.to; fan = k } ∷ []) node state ++ map (bundle_of network node) (leaving state (drop (i + 1) transitions)) ≡ whole node state
+      → ((node state : ℕ) → leg_bundles before legs (place_of node) state ++ map (bundle_of network node) (leaving state (drop i transitions)) ≡ whole node state)
+      → (node state : ℕ) → leg_bundles after (legs ++ record { from = t.from; to = t.to; fan = k } ∷ []) (place_of node) state ++ map (bundle_of network node) (leaving state (drop (i + 1) transitions)) ≡ whole node state
   leg_more i k t before after legs whole at fan within all node state =
       let leg : Leg = record { from = t.from; to = t.to; fan = k } in
       let rest = map (bundle_of network node) (leaving state (drop (i + 1) transitions)) in
-      let is : leg_bundle after node leg ≡ bundle_of network node t = ap (λ hs. let b : Bundle = record { state = t.to; hops = hs } in b) (fan.right node) in
-      ap (λ bs. bs ++ rest) (both node state after legs (leg ∷ []))
-      ∙ (append_assoc (leg_bundles after legs node state) (leg_bundles after (leg ∷ []) node state) rest
-      ∙ (ap₂ (λ a b. a ++ b) (legs_stay before after node fan.kept state legs within) (leg_is node state after t (drop (i + 1) transitions) leg refl is)
-      ∙ (ap (λ ts. leg_bundles before legs node state ++ map (bundle_of network node) (leaving state ts)) (sym (left_at transitions i t at)) ∙ all node state)))
+      let place = place_of node in
+      let is : leg_bundle after place leg ≡ bundle_of network node t = ap (λ hs. let b : Bundle = record { state = t.to; hops = hs } in b) (fan.right node) in
+      ap (λ bs. bs ++ rest) (both place state after legs (leg ∷ []))
+      ∙ (append_assoc (leg_bundles after legs place state) (leg_bundles after (leg ∷ []) place state) rest
+      ∙ (ap₂ (λ a b. a ++ b) (legs_stay before after place fan.kept state legs within) (leg_is node state after t (drop (i + 1) transitions) leg refl is)
+      ∙ (ap (λ ts. leg_bundles before legs place state ++ map (bundle_of network node) (leaving state ts)) (sym (left_at transitions i t at)) ∙ all node state)))
 
   -- past the last transition no leg is missing
   pub none_left : (i node state : ℕ) (so_far whole : List Bundle) → slice_get transitions i ≡ None

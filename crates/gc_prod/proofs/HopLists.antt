@@ -1,5 +1,5 @@
 -- The hops of some elements, one after another.
-use Rattle.std.proofs.Common.{◌≡◌, ℕ, zero, suc, ◌+◌, Bool, true, false, cond, nat_eq, List, [], ◌∷◌, ◌++◌, map, drop, Some, sym, ap, ◌∙◌, append_assoc, arith}
+use Rattle.std.proofs.Common.{◌≡◌, ℕ, zero, suc, ◌+◌, ◌≤◌, Bool, true, false, cond, nat_eq, List, [], ◌∷◌, ◌++◌, map, length, drop, Some, refl, sym, ap, ◌∙◌, append_assoc, arith}
 use Rattle.std.specs.List.{filter, slice_get}
 use Rattle.std.specs.Cmp.Lexicographic.{pointwise}
 use Rattle.gc_automata.specs.Moves.{Segment}
@@ -50,3 +50,23 @@ module _ (view : List ℕ) where
   no_segment so_far xs i x whole at fails all =
       ap (λ b. so_far ++ cond b (by_segment i x ∷ by_segments view (i + 1) (drop (i + 1) xs)) (by_segments view (i + 1) (drop (i + 1) xs))) (sym fails)
       ∙ (ap (λ ys. so_far ++ by_segments view i ys) (sym (left_at xs i x at)) ∙ all)
+
+-- a filter that keeps as many items as there are keeps all
+kept_few : {X : Type 0} (p : X → Bool) (xs : List X) → length (filter p xs) ≤ length xs
+kept_few p [] = omega arith
+kept_few p (x ∷ xs) =
+    let rest = kept_few p xs in
+    elim (p x) as (λ b. length (cond b (x ∷ filter p xs) (filter p xs)) ≤ suc (length xs)) [ true ↦ omega (arith, rest) | false ↦ omega (arith, rest) ]
+
+pub kept_whole : {X : Type 0} (p : X → Bool) (xs : List X) → length (filter p xs) ≡ length xs → filter p xs ≡ xs
+kept_whole p [] h = refl
+kept_whole p (x ∷ xs) h = by (kept_whole p xs) (p x) h
+  where
+    by : (length (filter p xs) ≡ length xs → filter p xs ≡ xs) → (b : Bool) → length (cond b (x ∷ filter p xs) (filter p xs)) ≡ suc (length xs)
+        → cond b (x ∷ filter p xs) (filter p xs) ≡ x ∷ xs
+    by next true k = ap (λ l. x ∷ l) (next (omega (arith, k)))
+    by next false k = absurd (omega (arith, k, kept_few p xs))
+
+pub all_kept : {X : Type 0} (xs : List X) → filter (λ x. true) xs ≡ xs
+all_kept [] = refl
+all_kept (x ∷ xs) = ap (λ l. x ∷ l) (all_kept xs)

@@ -1,10 +1,13 @@
 pub mod BundleLaws
 pub mod FanLaws
 pub mod GoesLaws
+pub mod GroupLaws
 pub mod HopCounts
 pub mod HopLists
 pub mod KeyRuns
+pub mod LandingLaws
 pub mod LeadLaws
 pub mod Members
 pub mod MoveLaws
 pub mod Networks
+pub mod PlaceLaws

@@ -1,5 +1,8 @@
+pub mod Groups
 pub mod Keys
+pub mod Landings
 pub mod Leading
+pub mod Places
 pub mod Preparing
 pub mod Products
 pub mod Segments

@@ -11,7 +11,10 @@ use Rattle.gc_automata.specs.declared.transition.On.TheVariants.{Empty, Label, B
 use Rattle.gc_prod.specs.declared.moves.Hop.{Hop}
 use Rattle.gc_prod.specs.declared.preparing.Fan.{Fan}
 use Rattle.gc_prod.specs.declared.preparing.Leg.{Leg}
+use Rattle.gc_prod.specs.Groups.{Grouped, row_of}
 use Rattle.gc_prod.specs.Keys.{at_key}
+use Rattle.gc_prod.specs.Landings.{Landing}
+use Rattle.gc_prod.specs.Places.{place_in}
 use Rattle.gc_prod.specs.Products.{Setting, Bundle, bundles}
 use Rattle.gc_prod.specs.Segments.{AreSegments}
 use Rattle.gc_prod.specs.SymbolHops.{hops}
@@ -35,17 +38,24 @@ symbol_at transitions i = option_map (λ t. t.on) (slice_get transitions i)
 abbrev pub is_fan_of : List Transition → On → Fan → Bool
 is_fan_of transitions on fan = option_map_or (same_symbol on) (symbol_at transitions fan.symbol) false
 
--- these are the hops along a symbol, from each node in their order
-abbrev pub AreHopsOf : Network → On → List Hop → Type 0
-AreHopsOf network on kept = (node : ℕ) → at_key (λ h. h.from) node kept ≡ at_key (λ h. h.from) node (hops network on)
+-- these are the hops along a symbol, at the place of each node those from it, in their order
+abbrev pub AreHopsOf : Network → On → Grouped Hop → Type 0
+AreHopsOf network on kept = (node : ℕ) → row_of kept (place_in (node_ids network.graph.nodes) node) ≡ at_key (λ h. h.from) node (hops network on)
 
 -- a fan has the hops along the symbol of its transition
 abbrev pub IsFan : Network → List Transition → Fan → Type 0
 IsFan network transitions fan = (on : On) → symbol_at transitions fan.symbol ≡ Some on → AreHopsOf network on fan.hops
 
 -- the hops of the fan of a number
-abbrev pub fan_at : List Fan → ℕ → List Hop
-fan_at fans i = option_map_or (λ fan. fan.hops) (slice_get fans i) []
+abbrev pub fan_at : List Fan → ℕ → Grouped Hop
+fan_at fans i = option_map_or (λ fan. fan.hops) (slice_get fans i) (record { items = []; starts = [] })
+
+-- a fan tells the places of the nodes to which its hops lead
+abbrev pub HasTargets : List ℕ → Fan → Type 0
+HasTargets nodes fan = (place : ℕ) → row_of fan.targets place ≡ map (λ h. place_in nodes h.to) (row_of fan.hops place)
+
+abbrev pub targets_at : List Fan → ℕ → Grouped ℕ
+targets_at fans i = option_map_or (λ fan. fan.targets) (slice_get fans i) (record { items = []; starts = [] })
 
 -- there is a fan of the symbol at this number, and the fans before are as they were
 pub record HasFan (network : Network) (transitions : List Transition) (on : On) (before after : List Fan) (i : ℕ) : Type 0 where
@@ -55,20 +65,25 @@ pub record HasFan (network : Network) (transitions : List Transition) (on : On) 
   pub kept : (j : ℕ) → j < length before → slice_get after j ≡ slice_get before j
   pub fans : AllByRecursion (IsFan network transitions) after
 
--- the hops from a node along a leg
+-- the hops from the node at a place along a leg
 abbrev pub leg_bundle : List Fan → ℕ → Leg → Bundle
-leg_bundle fans node leg = record { state = leg.to; hops = at_key (λ h. h.from) node (fan_at fans leg.fan) }
+leg_bundle fans place leg = record { state = leg.to; hops = row_of (fan_at fans leg.fan) place }
 
--- the hops from a node along the legs that leave a state
+-- the hops from the node at a place along the legs that leave a state
 abbrev pub leg_bundles : List Fan → List Leg → ℕ → ℕ → List Bundle
-leg_bundles fans legs node state = map (leg_bundle fans node) (at_key (λ leg. leg.from) state legs)
+leg_bundles fans legs place state = map (leg_bundle fans place) (at_key (λ leg. leg.from) state legs)
+
+-- where the hops lead from the node at a place along a leg
+abbrev pub leg_landing : List Fan → ℕ → Leg → Landing
+leg_landing fans place leg = record { state = leg.to; places = row_of (targets_at fans leg.fan) place }
 
 -- what a product keeps is right
-pub record IsPrepared (setting : Setting) (nodes : List ℕ) (legs : List Leg) (fans : List Fan) (width : ℕ) : Type 0 where
+pub record IsPrepared (setting : Setting) (nodes : List ℕ) (legs : Grouped Leg) (fans : List Fan) (width : ℕ) : Type 0 where
   pub graph : IsGraph setting.network.graph
   pub segments : AreSegments setting.network.graph setting.network.segments
   pub ids : nodes ≡ node_ids setting.network.graph.nodes
-  pub led : (node state : ℕ) → leg_bundles fans legs node state ≡ bundles setting node state
+  pub led : (node state : ℕ) → map (leg_bundle fans (place_in nodes node)) (row_of legs state) ≡ bundles setting node state
+  pub targets : AllByRecursion (HasTargets nodes) fans
   pub states : setting.machine.states ≤ width
   pub some : 0 < width
-  pub above : AllByRecursion (λ leg. leg.to < width) legs
+  pub above : (state : ℕ) → AllByRecursion (λ leg. leg.to < width) (row_of legs state)

@@ -1,4 +1,5 @@
-ghost use Rattle.std.specs.Prelude.{◌≡◌, ◌+◌, ◌≤◌, length, IfOk, nat_eq};
+ghost use Rattle.std.specs.Prelude.{◌≡◌, ◌+◌, ◌≤◌, length, IfOk, Some, nat_eq};
+ghost use Rattle.std.specs.List.{filter};
 ghost use Rattle.std.specs.Cmp.Lexicographic.{pointwise};
 ghost use Rattle.std.specs.Option.{option_copied};
 ghost use Rattle.gc_prod.specs.SymbolHops.{hops, at_nodes, along_edges, along_edge, by_segments, fits, still, by_segment};
@@ -7,7 +8,7 @@ use crate::moves::{By, Hop};
 use crate::segment::{Segment, SegmentList};
 use gc_automata::On;
 use gc_base::{LabelSet, Memory, Name, Steps};
-use gc_ppg::{EdgeInfo, Graph, NodeInfo};
+use gc_ppg::{EdgeInfo, Graph, Kind, NodeInfo};
 use std::alloc::Global;
 use std::sync::ledger::Ledger;
 
@@ -32,8 +33,8 @@ pub(crate) fn symbol_hops<L: Ledger>(
 {
     match on {
         On::Empty => node_hops(alloc, graph, None, steps),
-        On::Label(label) => edge_hops(alloc, graph, Way::Forward, Some(label), steps),
-        On::Back(label) => edge_hops(alloc, graph, Way::Back, Some(label), steps),
+        On::Label(label) => labelled_hops(alloc, graph, Way::Forward, label, steps),
+        On::Back(label) => labelled_hops(alloc, graph, Way::Back, label, steps),
         On::Any => edge_hops(alloc, graph, Way::Forward, None, steps),
         On::AnyBack => edge_hops(alloc, graph, Way::Back, None, steps),
         On::Test(label) => node_hops(alloc, graph, Some(label), steps),
@@ -59,6 +60,31 @@ fn node_hops<L: Ledger>(
         }
     }
     Ok(found)
+}
+
+// The hops along the edges that have a label.
+fn labelled_hops<L: Ledger>(
+    alloc: Global,
+    graph: &Graph,
+    way: Way,
+    label: &Name,
+    steps: &mut Steps<L>,
+) -> Result<Vec<Hop>, Memory>
+    ensures exact { IfOk result (λ found. found.items ≡ along_edges way (Some label.now) graph.now.edges) }
+    ensures few { steps.new ≤ steps.old + length graph.now.edges }
+{
+    edge_hops(alloc, graph, way, asked(graph, label), steps)
+}
+
+// What edges have to be tested for where a label is asked for: nothing where all of them have it.
+fn asked<'a>(graph: &Graph, label: &'a Name) -> Option<&'a Name>
+    ensures { filter (λ e. fits (option_copied result) e.labels) graph.now.edges ≡ filter (λ e. fits (Some label.now) e.labels) graph.now.edges }
+{
+    if graph.label_count(Kind::Edge, label) == graph.edge_count() {
+        None
+    } else {
+        Some(label)
+    }
 }
 
 // The hops along the edges that fit.

@@ -3,16 +3,20 @@
 //! handed out one by one in its order. This crate knows of no query and of no search.
 #![tactic(auto)]
 
+mod by_number;
 mod hop_lists;
 mod keyed;
 mod laws;
 mod moves;
+mod places;
 mod preparing;
 mod product;
 mod segment;
 
+pub use by_number::ByNumber;
 pub use keyed::{ByKey, Keyed};
 pub use laws::moves_make_the_runs;
 pub use moves::{By, Hop, Move, Pair, Run, RunMove};
-pub use product::{Bundle, Product};
+pub use places::place_of;
+pub use product::{Bundle, Landing, Product};
 pub use segment::{Segment, SegmentList, SegmentTable, SegmentsOn};

@@ -1,4 +1,4 @@
-ghost use Rattle.std.specs.Prelude.{◌≡◌, ◌+◌, ◌<◌, IfOk, slice_get, length, Some, map};
+ghost use Rattle.std.specs.Prelude.{◌≡◌, ◌+◌, ◌<◌, IfOk, slice_get, slice_index, length, Some, map};
 ghost use Rattle.std.specs.Prelude.{◌≤◌, ℕ};
 ghost use Rattle.std.specs.List.{AllByRecursion, flat_map};
 ghost use Rattle.std.specs.Option.{option_copied};
@@ -7,14 +7,16 @@ ghost use Rattle.gc_base.specs.Ascending.{Ascends};
 ghost use Rattle.gc_spec.specs.PropertyGraph.{IsGraph, node_ids};
 ghost use Rattle.gc_automata.specs.Moves.{IsNetwork, IsThere};
 ghost use Rattle.gc_ppg.specs.Reads.{handed_out};
-ghost use Rattle.gc_prod.specs.Preparing.{leg_bundle};
+ghost use Rattle.gc_prod.specs.Landings.{Lands};
+ghost use Rattle.gc_prod.specs.Preparing.{leg_bundle, leg_landing};
 ghost use Rattle.gc_prod.specs.Products.{moved, moves_by};
 ghost use Rattle.gc_prod.specs.Segments.{AreSegments};
 ghost use Rattle.gc_prod.specs.SymbolHops.{segment_steps};
 
-use crate::keyed::ByKey;
+use crate::by_number::ByNumber;
 use crate::moves::{Hop, Move};
-use crate::preparing::{Fan, Leg, legs};
+use crate::places::place_of;
+use crate::preparing::{Fan, Leg, by_state, legs};
 use crate::segment::{Segment, SegmentList};
 use gc_automata::Automaton;
 use gc_base::{Id, Memory, Step, Steps};
@@ -38,6 +40,21 @@ impl<'a> Model for Bundle<'a> {
     ghost view = { λ b. record { state = b.state; hops = b.hops.now } };
 }
 
+/// The places of the nodes to which a bundle of hops leads, and the state to which that leads.
+#[derive(Drop)]
+pub struct Landing<'a> {
+    pub state: u32,
+    pub places: &'a [usize],
+}
+
+impl<'a> Model for Landing<'a> {
+    ghost use Rattle.gc_prod.specs.Landings.{Landing as LandingAlone};
+
+    ghost Value = { LandingAlone };
+
+    ghost view = { λ l. record { state = l.state; places = l.places.now } };
+}
+
 /// A graph times an automaton, with segments of PATH views. Contracts see these three alone.
 #[derive(Drop)]
 pub struct Product<'a> {
@@ -45,7 +62,7 @@ pub struct Product<'a> {
     automaton: &'a Automaton,
     segments: &'a SegmentList,
     nodes: Vec<Id>,
-    legs: ByKey<Leg>,
+    legs: ByNumber<Leg>,
     fans: Vec<Fan>,
     width: usize,
 }
@@ -79,9 +96,9 @@ impl<'a> Product<'a> {
     {
         let nodes = node_list(alloc, graph, steps)?;
         let mut fans = Vec::new(alloc);
-        let legs = legs(alloc, graph, automaton, segments, &mut fans, steps)?;
-        let legs = ByKey::of(legs)?;
-        let width = width_of(automaton.states(), legs.as_slice());
+        let list = legs(alloc, graph, automaton, segments, &nodes, &mut fans, steps)?;
+        let width = width_of(automaton.states(), &list);
+        let legs = by_state(alloc, &list, width)?;
         Ok(Product {
             graph,
             automaton,
@@ -141,7 +158,7 @@ impl<'a> Product<'a> {
     pub fn bundle_count(&self, state: u32) -> usize
         ensures { (node : ℕ) → result ≡ length (bundles self.now node state) }
     {
-        self.legs.at(u64::from(state)).len()
+        self.legs.at(state as usize).len()
     }
 
     /// The hops from a node along the j-th of the transitions that leave a state. Each hop takes a
@@ -163,6 +180,26 @@ impl<'a> Product<'a> {
         bundle
     }
 
+    /// Where the hops lead from the node at a place along the j-th of the transitions that leave a
+    /// state: what the bundle says, by the places of the nodes. Each hop takes a step.
+    pub fn landing<L: Ledger>(
+        &self,
+        place: usize,
+        state: u32,
+        j: usize,
+        steps: &mut Steps<L>,
+    ) -> Landing<'_>
+        requires place { place < length (node_ids self.now.network.graph.nodes) }
+        requires leg { j < length (bundles self.now (slice_index (node_ids self.now.network.graph.nodes) place) state) }
+        ensures exact { Lands self.now place state j result }
+        ensures within { AllByRecursion (λ p. p < length (node_ids self.now.network.graph.nodes)) result.places }
+        ensures step { steps.new ≡ steps.old + length result.places }
+    {
+        let landing = self.landing_at(place, state, j);
+        count(landing.places.len(), steps);
+        landing
+    }
+
     /// The i-th move of a pair of a node and a state, or `None` exactly past the last. The moves of a
     /// pair are ordered by the state moved to, and then by the number of the edge or segment. A move
     /// takes one step, and `None` takes none.
@@ -176,7 +213,8 @@ impl<'a> Product<'a> {
         ensures exact { result ≡ slice_get (moves self.now node state) i }
         ensures step { steps.new ≡ steps.old + handed_out result }
     {
-        let found = nth_move(&self.fans, self.legs.at(u64::from(state)), node, i);
+        let place = place_of(&self.nodes, node);
+        let found = nth_move(&self.fans, self.legs.at(state as usize), place, i);
         if found.is_some() {
             steps.tick();
         }
@@ -189,31 +227,44 @@ impl<'a> Product<'a> {
         ensures exact { slice_get (bundles self.now node state) j ≡ Some result }
         ensures network { IsNetwork self.now.network }
     {
-        let legs = self.legs.at(u64::from(state));
-        along(&self.fans, node, legs[j])
+        let place = place_of(&self.nodes, node);
+        let legs = self.legs.at(state as usize);
+        along(&self.fans, place, legs[j])
+    }
+
+    // Where the hops lead along a transition, uncounted.
+    fn landing_at(&self, place: usize, state: u32, j: usize) -> Landing<'_>
+        requires place { place < length (node_ids self.now.network.graph.nodes) }
+        requires leg { j < length (bundles self.now (slice_index (node_ids self.now.network.graph.nodes) place) state) }
+        ensures exact { Lands self.now place state j result }
+        ensures within { AllByRecursion (λ p. p < length (node_ids self.now.network.graph.nodes)) result.places }
+    {
+        let legs = self.legs.at(state as usize);
+        landed(&self.fans, place, legs[j])
     }
 }
 
-// A number above the states to which some legs lead, and at least the given one.
+// A number above the states between which some legs lead, and at least the given one.
 fn width_of(states: u32, legs: &[Leg]) -> usize
     ensures states { states ≤ result }
     ensures some { 0 < result }
     ensures above { AllByRecursion (λ leg. leg.to < result) legs.now }
+    ensures left { AllByRecursion (λ leg. leg.from < result) legs.now }
 {
     let mut width = (states as usize).max(1);
     for leg in legs {
-        width = width.max(leg.to as usize + 1);
+        width = width.max(leg.from.max(leg.to) as usize + 1);
     }
     width
 }
 
-// The i-th move from a node along some legs.
-fn nth_move(fans: &[Fan], legs: &[Leg], node: Id, i: usize) -> Option<Move>
-    ensures { result ≡ slice_get (flat_map moves_by (map (leg_bundle fans.now node) legs.now)) i }
+// The i-th move from the node at a place along some legs.
+fn nth_move(fans: &[Fan], legs: &[Leg], place: usize, i: usize) -> Option<Move>
+    ensures { result ≡ slice_get (flat_map moves_by (map (leg_bundle fans.now place) legs.now)) i }
 {
     let mut left = i;
     for leg in legs {
-        let bundle = along(fans, node, *leg);
+        let bundle = along(fans, place, *leg);
         if left < bundle.hops.len() {
             return Some(move_by(bundle.state, bundle.hops[left]));
         }
@@ -233,16 +284,30 @@ fn move_by(state: u32, hop: Hop) -> Move
     }
 }
 
-// The hops from a node along a leg.
-fn along(fans: &[Fan], node: Id, leg: Leg) -> Bundle<'_>
-    ensures { result ≡ leg_bundle fans.now node leg }
+// The hops from the node at a place along a leg.
+fn along(fans: &[Fan], place: usize, leg: Leg) -> Bundle<'_>
+    ensures { result ≡ leg_bundle fans.now place leg }
 {
     let state = leg.to;
     match fans.get(leg.fan) {
         None => Bundle { state, hops: &[] },
         Some(fan) => Bundle {
             state,
-            hops: fan.hops.at(node.get()),
+            hops: fan.hops.at(place),
+        },
+    }
+}
+
+// Where the hops lead from the node at a place along a leg.
+fn landed(fans: &[Fan], place: usize, leg: Leg) -> Landing<'_>
+    ensures { result ≡ leg_landing fans.now place leg }
+{
+    let state = leg.to;
+    match fans.get(leg.fan) {
+        None => Landing { state, places: &[] },
+        Some(fan) => Landing {
+            state,
+            places: fan.targets.at(place),
         },
     }
 }

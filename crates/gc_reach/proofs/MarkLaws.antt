@@ -10,6 +10,7 @@ use Rattle.std.proofs.lemmas.List.Folds.{list_any-append}
 use Rattle.std.proofs.lemmas.List.Sums.{sum_by-set}
 use Rattle.gc_base.specs.Ascending.{Ascends}
 use Rattle.gc_base.proofs.SetLaws.{AllByRecursion-append}
+use Rattle.gc_prod.proofs.PlaceLaws.{above_differs}
 use Rattle.gc_prod.specs.declared.moves.Pair.{Pair}
 use Rattle.gc_prod.specs.Leading.{pair}
 use Rattle.gc_reach.specs.Numbering.{IsNumbered}
@@ -41,15 +42,6 @@ same_place w p s q t low high same = by (by_order p q)
     by (inl less) = absurd (later_differs w p s q t less low same)
     by (inr (inl is)) = is
     by (inr (inr more)) = absurd (later_differs w q t p s more high (sym same))
-
--- ascending numbers differ
-pub above_differs : (x : ℕ) (xs : List ℕ) (i : ℕ) → AllByRecursion (λ y. nat_cmp x y ≡ Less) xs → i < length xs → x < get_or xs i 0
-above_differs x [] i all below = absurd (omega arith)
-above_differs x (y ∷ xs) zero all below = by_less x y all.0
-  where
-    by_less : (a b : ℕ) → nat_cmp a b ≡ Less → a < b
-    by_less a b h = grind (arith, nat_tests)
-above_differs x (y ∷ xs) (suc i) all below = above_differs x xs i all.1 (omega arith)
 
 rises : (xs : List ℕ) (i j : ℕ) → Ascends nat_cmp xs → i < j → j < length xs → get_or xs i 0 < get_or xs j 0
 rises [] i j up less below = absurd (omega arith)

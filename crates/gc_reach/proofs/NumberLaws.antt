@@ -1,52 +1,26 @@
 -- Pairs with numbers: each its own.
 use Rattle.std.proofs.Common.{◌≡◌, ℕ, zero, suc, ◌*◌, ◌<◌, Bool, true, false, cond, ◌||◌, ◌==◌, List, [], ◌∷◌, length, get_or, refl, sym, ap, ◌∙◌, arith}
-use Rattle.std.specs.Ordering.{nat_cmp}
 use Rattle.std.proofs.lemmas.Bool.Decides.{nat_tests}
-use Rattle.gc_base.specs.Ascending.{Ascends}
 use Rattle.gc_prod.specs.declared.moves.Pair.{Pair}
 use Rattle.gc_spec.specs.PropertyGraph.{is_among}
-use Rattle.gc_reach.specs.Numbering.{place_in, number_of, IsNumbered}
-use Rattle.gc_reach.proofs.MarkLaws.{above_differs, same_place}
+use Rattle.gc_prod.specs.Places.{place_in}
+use Rattle.gc_prod.proofs.PlaceLaws.{place_there}
+use Rattle.gc_reach.specs.Numbering.{number_of, IsNumbered}
+use Rattle.gc_reach.proofs.MarkLaws.{same_place}
 
-eqb_same : (a b : ℕ) → (a == b) ≡ true → a ≡ b
+eqb_same : (a b : ℕ) → a ≡ b → (a == b) ≡ true
 eqb_same a b h = grind (arith, nat_tests)
 
-less_differs : (a b : ℕ) → a < b → (a == b) ≡ false
-less_differs a b h = grind (arith, nat_tests)
-
-same_is : (a b : ℕ) → a ≡ b → (a == b) ≡ true
-same_is a b h = grind (arith, nat_tests)
-
--- the place where a node stands among ascending ones
-pub place_is : (nodes : List ℕ) (place node : ℕ) → Ascends nat_cmp nodes → place < length nodes → get_or nodes place 0 ≡ node → place ≡ place_in nodes node
-place_is [] place node up below at = absurd (omega arith)
-place_is (x ∷ nodes) zero node up below at = ap (λ b. cond b 0 (suc (place_in nodes node))) (sym (same_is x node at))
-place_is (x ∷ nodes) (suc place) node up below at =
-    let less : x < get_or nodes place 0 = above_differs x nodes place up.0 (omega arith) in
-    let rest = place_is nodes place node up.1 (omega arith) at in
-    ap suc rest ∙ ap (λ b. cond b 0 (suc (place_in nodes node))) (sym (less_differs x node (omega (arith, less, at))))
-
--- at its place stands the node
-pub record StandsAt (nodes : List ℕ) (node : ℕ) : Type 0 where
-  pub within : place_in nodes node < length nodes
-  pub at : get_or nodes (place_in nodes node) 0 ≡ node
-
-pub place_there : (nodes : List ℕ) (node : ℕ) → is_among nodes node ≡ true → StandsAt nodes node
-place_there [] node h = cc
-place_there (x ∷ nodes) node h = by (place_there nodes node) (x == node) refl h
+-- what stands at a place is among the nodes
+pub among_read : (nodes : List ℕ) (place : ℕ) → place < length nodes → is_among nodes (get_or nodes place 0) ≡ true
+among_read [] place below = absurd (omega arith)
+among_read (x ∷ nodes) zero below = ap (λ b. b || is_among nodes x) (eqb_same x x refl)
+among_read (x ∷ nodes) (suc place) below =
+    ap (λ b. (x == get_or nodes place 0) || b) (among_read nodes place (omega arith)) ∙ or_true (x == get_or nodes place 0)
   where
-    place : (b : Bool) → (x == node) ≡ b → place_in (x ∷ nodes) node ≡ cond b 0 (suc (place_in nodes node))
-    place b e = ap (λ c. cond c 0 (suc (place_in nodes node))) e
-
-    by : (is_among nodes node ≡ true → StandsAt nodes node) → (b : Bool) → (x == node) ≡ b → (b || is_among nodes node) ≡ true → StandsAt (x ∷ nodes) node
-    by next true e k = record {
-      within = omega (arith, place true e);
-      at = ap (λ n. get_or (x ∷ nodes) n 0) (place true e) ∙ eqb_same x node e;
-    }
-    by next false e k = let rest = next k in record {
-      within = omega (arith, place false e, rest.within);
-      at = ap (λ n. get_or (x ∷ nodes) n 0) (place false e) ∙ rest.at;
-    }
+    or_true : (b : Bool) → (b || true) ≡ true
+    or_true true = refl
+    or_true false = refl
 
 -- two pairs of one number are the same
 pub one_number : (nodes : List ℕ) (width : ℕ) (p q : Pair) → IsNumbered nodes width p → IsNumbered nodes width q → number_of nodes width p ≡ number_of nodes width q → p ≡ q

@@ -1,5 +1,5 @@
 -- Going back along kept moves is going along moves, the other way.
-use Rattle.std.proofs.Common.{◌≡◌, ℕ, zero, suc, ◌<◌, true, List, [], ◌∷◌, map, ◌==◌, refl, sym, subst, ◌∙◌, arith}
+use Rattle.std.proofs.Common.{◌≡◌, ℕ, zero, suc, ◌*◌, ◌<◌, length, true, List, [], ◌∷◌, map, ◌==◌, refl, sym, subst, ◌∙◌, arith}
 use Rattle.std.specs.List.{AllByRecursion, Contains}
 use Rattle.std.proofs.lemmas.Bool.{eq-eqb}
 use Rattle.std.proofs.lemmas.Bool.Decides.{nat_tests}
@@ -8,7 +8,10 @@ use Rattle.gc_base.specs.declared.walk.Step.{Step}
 use Rattle.gc_spec.specs.PropertyGraph.{is_among}
 use Rattle.gc_prod.specs.declared.moves.Move.{Move}
 use Rattle.gc_prod.specs.declared.moves.Pair.{Pair}
+use Rattle.gc_prod.specs.Groups.{Grouped, row_of}
 use Rattle.gc_prod.specs.Keys.{at_key}
+use Rattle.gc_prod.specs.Places.{place_in}
+use Rattle.gc_prod.proofs.PlaceLaws.{place_there}
 use Rattle.gc_prod.specs.Leading.{Leads, IsTaken, target_of, steps_of}
 use Rattle.gc_prod.specs.Products.{Setting, moves}
 use Rattle.gc_prod.proofs.BundleLaws.{all_from}
@@ -19,6 +22,7 @@ use Rattle.gc_reach.specs.Exploring.{Led, IsLed, AreAll}
 use Rattle.gc_reach.specs.Numbering.{number_of, IsNumbered}
 use Rattle.gc_reach.specs.Turning.{turn, turns_of, turns, into, before, steps_along, steps_into}
 use Rattle.gc_reach.proofs.FoundLaws.{complete, led_more}
+use Rattle.gc_reach.proofs.MarkLaws.{mark_within}
 use Rattle.gc_reach.proofs.NumberLaws.{one_number}
 use Rattle.gc_reach.proofs.VisitLaws.{has_contains}
 
@@ -30,8 +34,8 @@ all_map f P [] all = tt
 all_map f P (x ∷ xs) all = (all.0, all_map f P xs all.1)
 
 -- going back leads to nodes where kept moves leave nodes
-pub back_there : (nodes others : List ℕ) (width : ℕ) (kept : List Turn) (at : Pair) → nodes ≡ others
-    → ((key : ℕ) → AllByRecursion (λ t. is_among others t.from.node ≡ true) (at_key (λ t. t.number) key kept))
+pub back_there : (nodes others : List ℕ) (width : ℕ) (kept : Grouped Turn) (at : Pair) → nodes ≡ others
+    → ((key : ℕ) → AllByRecursion (λ t. is_among others t.from.node ≡ true) (row_of kept key))
     → AllByRecursion (λ q. is_among nodes q.node ≡ true) (before nodes width kept at)
 back_there nodes others width kept at same each =
     all_map (λ (t : Turn). t.from) (λ (q : Pair). is_among nodes q.node ≡ true) (into nodes width kept at)
@@ -63,13 +67,24 @@ module _ (setting : Setting) (nodes : List ℕ) (width : ℕ) where
         part = in_map (turn nodes width p) (moves setting p.node p.state) m by;
       })
 
+-- each kept move has the number of a pair, where all moves of some pairs lead to such pairs
+pub turns_within : (setting : Setting) (nodes : List ℕ) (width : ℕ) (pairs : List Pair) → AllByRecursion (IsNumbered nodes width) pairs
+    → ((p : Pair) → Contains pairs p → (m : Move) → Contains (moves setting p.node p.state) m → Contains pairs (target_of m))
+    → AllByRecursion (λ t. t.number < length nodes * width) (turns setting nodes width pairs)
+turns_within setting nodes width pairs numbered reached =
+    all_from (λ (t : Turn). t.number < length nodes * width) (turns setting nodes width pairs) (λ t k.
+    let is = is_turn setting nodes width pairs t k in
+    let q = target_of t.to in
+    let has = among_all (IsNumbered nodes width) pairs q numbered (reached t.from is.from t.to is.to) in
+    subst (λ n. n < length nodes * width) (sym is.number) (mark_within (length nodes) width (place_in nodes q.node) q.state (place_there nodes q.node has.node).within has.state))
+
 -- the moves of some pairs are kept, by the numbers of the pairs to which they lead
-pub record AreKept (setting : Setting) (nodes : List ℕ) (width : ℕ) (pairs : List Pair) (kept : List Turn) : Type 0 where
-  pub exact : (key : ℕ) → at_key (λ t. t.number) key kept ≡ at_key (λ t. t.number) key (turns setting nodes width pairs)
+pub record AreKept (setting : Setting) (nodes : List ℕ) (width : ℕ) (pairs : List Pair) (kept : Grouped Turn) : Type 0 where
+  pub exact : (key : ℕ) → row_of kept key ≡ at_key (λ t. t.number) key (turns setting nodes width pairs)
   pub numbered : AllByRecursion (IsNumbered nodes width) pairs
   pub reached : (p : Pair) → Contains pairs p → (m : Move) → Contains (moves setting p.node p.state) m → Contains pairs (target_of m)
 
-module _ (setting : Setting) (nodes : List ℕ) (width : ℕ) (pairs : List Pair) (kept : List Turn) (are : AreKept setting nodes width pairs kept) where
+module _ (setting : Setting) (nodes : List ℕ) (width : ℕ) (pairs : List Pair) (kept : Grouped Turn) (are : AreKept setting nodes width pairs kept) where
   numbered : (p : Pair) → Contains pairs p → IsNumbered nodes width p
   numbered p h = among_all (IsNumbered nodes width) pairs p are.numbered h
 
@@ -96,17 +111,17 @@ module _ (setting : Setting) (nodes : List ℕ) (width : ℕ) (pairs : List Pair
       (in_filter (λ (t : Turn). t.number == n) (turns setting nodes width pairs) (turn nodes width p m) (record { among = turn_is setting nodes width pairs p m among by; passes = eq-eqb n n refl }))
 
   -- what is so of all pairs is so of those that kept moves leave
-  pub left_all : (P : Pair → Type 0) → ((p : Pair) → Contains pairs p → P p) → (key : ℕ) → AllByRecursion (λ t. P t.from) (at_key (λ t. t.number) key kept)
+  pub left_all : (P : Pair → Type 0) → ((p : Pair) → Contains pairs p → P p) → (key : ℕ) → AllByRecursion (λ t. P t.from) (row_of kept key)
   left_all P each key =
       let all = turns setting nodes width pairs in
       subst (λ (l : List Turn). AllByRecursion (λ t. P t.from) l) (sym (are.exact key))
       (AllByRecursion-filter (λ (t : Turn). P t.from) (λ t. t.number == key) all
       (all_from (λ (t : Turn). P t.from) all (λ t k. each t.from (is_turn setting nodes width pairs t k).from)))
 
-  pub left_nodes : (key : ℕ) → AllByRecursion (λ t. is_among nodes t.from.node ≡ true) (at_key (λ t. t.number) key kept)
+  pub left_nodes : (key : ℕ) → AllByRecursion (λ t. is_among nodes t.from.node ≡ true) (row_of kept key)
   left_nodes = left_all (λ p. is_among nodes p.node ≡ true) (λ p h. (numbered p h).node)
 
-  pub left_states : (key : ℕ) → AllByRecursion (λ t. t.from.state < width) (at_key (λ t. t.number) key kept)
+  pub left_states : (key : ℕ) → AllByRecursion (λ t. t.from.state < width) (row_of kept key)
   left_states = left_all (λ p. p.state < width) (λ p h. (numbered p h).state)
 
   -- one is led back exactly where moves lead

@@ -1,9 +1,10 @@
 -- Going over pairs, from one on, until there is none behind.
-use Rattle.std.specs.Prelude.{◌≡◌, ℕ, zero, suc, ◌+◌, ◌*◌, true, false, List, [], ◌∷◌, map, length, sum_by}
+use Rattle.std.specs.Prelude.{◌≡◌, ℕ, zero, suc, ◌+◌, ◌*◌, true, false, List, [], ◌∷◌, map, length, slice_index, sum_by}
 use Rattle.std.specs.List.{AllByRecursion, Contains}
 use Rattle.gc_spec.specs.PropertyGraph.{is_among}
 use Rattle.gc_prod.specs.declared.moves.Pair.{Pair}
-use Rattle.gc_prod.specs.Leading.{target_of}
+use Rattle.gc_prod.specs.Landings.{Landing}
+use Rattle.gc_prod.specs.Leading.{pair, target_of}
 use Rattle.gc_prod.specs.Products.{Setting, Bundle, moves, moves_by}
 use Rattle.gc_reach.specs.Marking.{has_pair}
 
@@ -14,6 +15,10 @@ targets setting p = map target_of (moves setting p.node p.state)
 -- the pairs to which a bundle leads
 abbrev pub targets_by : Bundle → List Pair
 targets_by b = map target_of (moves_by b)
+
+-- the pairs of the nodes at some places and a state
+abbrev pub landed : List ℕ → Landing → List Pair
+landed nodes l = map (λ p. pair (slice_index nodes p) l.state) l.places
 
 -- so many times from a pair to one of those behind it
 abbrev pub Led : (Pair → List Pair) → ℕ → Pair → Pair → Type 0

@@ -1,12 +1,8 @@
 -- A number for each pair of a node of a list and a state below a number.
-use Rattle.std.specs.Prelude.{◌≡◌, ℕ, suc, ◌+◌, ◌*◌, ◌<◌, ◌==◌, true, List, [], ◌∷◌, if◌then◌else◌}
+use Rattle.std.specs.Prelude.{◌≡◌, ℕ, ◌+◌, ◌*◌, ◌<◌, true, List}
 use Rattle.gc_spec.specs.PropertyGraph.{is_among}
+use Rattle.gc_prod.specs.Places.{place_in}
 use Rattle.gc_prod.specs.declared.moves.Pair.{Pair}
-
--- the place of a node among some
-abbrev pub place_in : List ℕ → ℕ → ℕ
-place_in [] node = 0
-place_in (x ∷ nodes) node = if x == node then 0 else suc (place_in nodes node)
 
 -- pairs are numbered node by node
 abbrev pub number_of : List ℕ → ℕ → Pair → ℕ

@@ -2,7 +2,7 @@
 use Rattle.std.specs.Prelude.{ℕ, List, map}
 use Rattle.std.specs.List.{flat_map}
 use Rattle.gc_base.specs.declared.walk.Step.{Step}
-use Rattle.gc_prod.specs.Keys.{at_key}
+use Rattle.gc_prod.specs.Groups.{Grouped, row_of}
 use Rattle.gc_prod.specs.declared.moves.Move.{Move}
 use Rattle.gc_prod.specs.declared.moves.Pair.{Pair}
 use Rattle.gc_prod.specs.Leading.{target_of, steps_of}
@@ -22,16 +22,16 @@ abbrev pub turns : Setting → List ℕ → ℕ → List Pair → List Turn
 turns setting nodes width pairs = flat_map (turns_of setting nodes width) pairs
 
 -- the kept moves that lead to a pair
-abbrev pub into : List ℕ → ℕ → List Turn → Pair → List Turn
-into nodes width kept q = at_key (λ t. t.number) (number_of nodes width q) kept
+abbrev pub into : List ℕ → ℕ → Grouped Turn → Pair → List Turn
+into nodes width kept q = row_of kept (number_of nodes width q)
 
 -- the pairs that they leave
-abbrev pub before : List ℕ → ℕ → List Turn → Pair → List Pair
+abbrev pub before : List ℕ → ℕ → Grouped Turn → Pair → List Pair
 before nodes width kept q = map (λ t. t.from) (into nodes width kept q)
 
 -- the steps that walks take by some kept moves, and by all those that lead to some pairs
 abbrev pub steps_along : Setting → List Turn → List Step
 steps_along setting kept = flat_map (λ t. steps_of setting t.to) kept
 
-abbrev pub steps_into : Setting → List ℕ → ℕ → List Turn → List Pair → List Step
+abbrev pub steps_into : Setting → List ℕ → ℕ → Grouped Turn → List Pair → List Step
 steps_into setting nodes width kept pairs = flat_map (λ q. steps_along setting (into nodes width kept q)) pairs

@@ -1,45 +1,45 @@
-ghost use Rattle.std.specs.Prelude.{◌≡◌, ◌+◌, ◌<◌, ◌≤◌, ◌∷◌, [], ℕ, length, true, OnOk, IfOk};
+ghost use Rattle.std.specs.Prelude.{◌≡◌, ◌+◌, ◌<◌, ◌≤◌, ◌∷◌, [], ℕ, length, slice_index, OnOk};
 ghost use Rattle.std.specs.List.{AllByRecursion};
 ghost use Rattle.gc_automata.specs.Moves.{IsNetwork, IsThere};
-ghost use Rattle.gc_spec.specs.PropertyGraph.{is_among, node_ids};
+ghost use Rattle.gc_spec.specs.PropertyGraph.{node_ids};
 ghost use Rattle.gc_prod.specs.Leading.{pair};
 ghost use Rattle.gc_prod.specs.Products.{bundles, moves};
-ghost use Rattle.gc_reach.specs.Exploring.{targets, targets_by, AreAll, most_moves};
-ghost use Rattle.gc_reach.specs.Marking.{visit_all};
+ghost use Rattle.gc_reach.specs.Exploring.{targets, landed, AreAll, most_moves};
+ghost use Rattle.gc_reach.specs.Marking.{pair_at, visit_all};
 
-use crate::marks::Marks;
+use crate::marks::{Marks, Spot};
 use gc_base::{Id, Memory, Steps};
-use gc_prod::{Bundle, Product};
+use gc_prod::{Landing, Product};
 use std::sync::ledger::Ledger;
 
-// Marks the pairs to which a bundle leads.
-fn follow(bundle: &Bundle, marks: &mut Marks) -> Result<(), Memory>
-    requires there { AllByRecursion (λ h. is_among marks.old.nodes h.to ≡ true) bundle.now.hops }
-    requires state { bundle.now.state < marks.old.width }
-    ensures { OnOk result (marks.new ≡ record marks.old { pairs = visit_all marks.old.pairs (targets_by bundle.now) }) }
+// Marks the pairs of the nodes at some places and a state.
+fn follow(landing: &Landing, marks: &mut Marks) -> Result<(), Memory>
+    requires within { AllByRecursion (λ p. p < length marks.old.nodes) landing.now.places }
+    requires state { landing.now.state < marks.old.width }
+    ensures { OnOk result (marks.new ≡ record marks.old { pairs = visit_all marks.old.pairs (landed marks.old.nodes landing.now) }) }
 {
-    for hop in bundle.hops {
-        marks.mark(hop.to, bundle.state)?;
+    for place in landing.places {
+        marks.mark_at(*place, landing.state)?;
     }
     Ok(())
 }
 
-// Marks the pairs to which the moves of a pair lead.
+// Marks the pairs to which the moves of a pair lead, of which the place of the node is told.
 fn expand<L: Ledger>(
     p: &Product,
-    node: Id,
-    state: u32,
+    at: Spot,
     marks: &mut Marks,
     steps: &mut Steps<L>,
 ) -> Result<(), Memory>
+    requires place { at.place < length marks.old.nodes }
     requires nodes { marks.old.nodes ≡ node_ids p.now.network.graph.nodes }
     requires width { (node state : ℕ) → AllByRecursion (λ b. b.state < marks.old.width) (bundles p.now node state) }
-    ensures marks { OnOk result (marks.new ≡ record marks.old { pairs = visit_all marks.old.pairs (targets p.now (pair node state)) }) }
-    ensures few { steps.new ≤ steps.old + length (moves p.now node state) }
+    ensures marks { OnOk result (marks.new ≡ record marks.old { pairs = visit_all marks.old.pairs (targets p.now (pair_at marks.old.nodes at)) }) }
+    ensures few { steps.new ≤ steps.old + length (moves p.now (slice_index marks.old.nodes at.place) at.state) }
 {
-    for j in 0..p.bundle_count(state) {
-        let bundle = p.bundle(node, state, j, steps);
-        follow(&bundle, marks)?;
+    for j in 0..p.bundle_count(at.state) {
+        let landing = p.landing(at.place, at.state, j, steps);
+        follow(&landing, marks)?;
     }
     Ok(())
 }
@@ -63,7 +63,7 @@ pub(crate) fn settle<L: Ledger>(
 {
     let mut i = 0;
     while let Some(at) = marks.at(i) {
-        expand(p, at.node, at.state, marks, steps)?;
+        expand(p, at, marks, steps)?;
         i += 1;
     }
     Ok(())

@@ -1,34 +1,44 @@
-ghost use Rattle.std.specs.Prelude.{◌≡◌, ◌+◌, ◌*◌, ◌^◌, ◌<◌, ◌≤◌, [], length, true, IfOk, IfSome, OnOk, slice_get, slice_index, replicate, false};
+ghost use Rattle.std.specs.Prelude.{◌≡◌, ◌+◌, ◌*◌, ◌^◌, ◌<◌, ◌≤◌, [], length, map, true, IfOk, IfSome, OnOk, slice_get, slice_index, replicate, false};
 ghost use Rattle.std.specs.List.{AllByRecursion, filter};
+ghost use Rattle.std.specs.Option.{option_map};
 ghost use Rattle.std.specs.Ordering.{nat_cmp};
 ghost use Rattle.gc_base.specs.Ascending.{Ascends};
 ghost use Rattle.gc_spec.specs.PropertyGraph.{is_among};
 ghost use Rattle.gc_prod.specs.Leading.{pair};
-ghost use Rattle.gc_reach.specs.Numbering.{place_in, number_of, IsNumbered};
+ghost use Rattle.gc_reach.specs.Marking.{IsSpot, pair_at};
+ghost use Rattle.gc_reach.specs.Numbering.{number_of, IsNumbered};
 
 use gc_base::{Id, Memory};
-use gc_prod::Pair;
+use gc_prod::{Pair, place_of};
 use std::alloc::Global;
 use std::marker::Model;
 
+// The place of a node, and a state.
+#[derive(Clone, Copy)]
+pub(crate) struct Spot {
+    pub(crate) place: usize,
+    pub(crate) state: u32,
+}
+
 // Which pairs of a node and a state are marked, in the order of their marking. One mark for each pair
-// that there may be stands in one array.
+// that there may be stands in one array. Contracts see the pairs; kept are the places of their nodes.
 #[derive(Drop)]
 pub(crate) struct Marks<'a> {
     nodes: &'a [Id],
     width: usize,
     marked: Vec<bool>,
-    pairs: Vec<Pair>,
+    spots: Vec<Spot>,
 }
 
 impl<'a> Model for Marks<'a> {
-    ghost use Rattle.gc_reach.specs.Marking.{Marking, IsMarked};
+    ghost use Rattle.std.specs.Prelude.{map};
+    ghost use Rattle.gc_reach.specs.Marking.{Marking, AreMarks, pair_at};
 
     ghost Value = { Marking };
 
-    ghost view = { λ m. record { nodes = m.nodes.now; width = m.width; pairs = m.pairs.items } };
+    ghost view = { λ m. record { nodes = m.nodes.now; width = m.width; pairs = map (pair_at m.nodes.now) m.spots.items } };
 
-    ghost invariant = { λ m. IsMarked (record { nodes = m.nodes.now; width = m.width; pairs = m.pairs.items }) m.marked.items };
+    ghost invariant = { λ m. AreMarks m.nodes.now m.width m.marked.items m.spots.items };
 }
 
 impl<'a> Marks<'a> {
@@ -43,42 +53,67 @@ impl<'a> Marks<'a> {
             return Err(Memory);
         };
         let marked = vec![in alloc; false; size]?;
-        let pairs = Vec::new(alloc);
+        let spots = Vec::new(alloc);
         Ok(Marks {
             nodes,
             width,
             marked,
-            pairs,
+            spots,
         })
     }
 
-    // The i-th pair that was marked. It has a number, and there are no more marked than there may be.
-    pub(crate) fn at(&self, i: usize) -> Option<Pair>
-        ensures exact { result ≡ slice_get self.now.pairs i }
-        ensures numbered { IfSome result (IsNumbered self.now.nodes self.now.width) }
+    // How many pairs there may be.
+    pub(crate) fn size(&self) -> usize
+        ensures { result ≡ length self.now.nodes * self.now.width }
+    {
+        self.marked.len()
+    }
+
+    // The i-th pair that was marked, by the place of its node. There are no more marked than there
+    // may be.
+    pub(crate) fn at(&self, i: usize) -> Option<Spot>
+        ensures exact { option_map (pair_at self.now.nodes) result ≡ slice_get self.now.pairs i }
+        ensures placed { IfSome result (IsSpot self.now.nodes self.now.width) }
         ensures within { length self.now.pairs ≤ length self.now.nodes * self.now.width }
         ensures few { length self.now.pairs < 2 ^ 64 }
     {
         let _marked = self.marked.len();
-        self.pairs.get(i).copied()
+        self.spots.get(i).copied()
     }
 
-    // The marked pairs, in the order of their marking. Each has a number.
-    pub(crate) fn pairs(&self) -> &[Pair]
-        ensures pairs { result.now ≡ self.now.pairs }
+    // The marked pairs by the places of their nodes, in the order of their marking. Each has a number.
+    pub(crate) fn spots(&self) -> &[Spot]
+        ensures pairs { map (pair_at self.now.nodes) result.now ≡ self.now.pairs }
+        ensures placed { AllByRecursion (IsSpot self.now.nodes self.now.width) result.now }
         ensures numbered { AllByRecursion (IsNumbered self.now.nodes self.now.width) self.now.pairs }
     {
-        &self.pairs
+        &self.spots
+    }
+
+    // The pair of the node at a place and a state.
+    pub(crate) fn pair(&self, spot: Spot) -> Pair
+        requires { IsSpot self.now.nodes self.now.width spot }
+        ensures { result ≡ pair_at self.now.nodes spot }
+    {
+        pair_of(self.nodes, spot)
     }
 
     // The number of the pair of a node and a state.
-    pub(crate) fn number(&self, node: Id, state: u32) -> u64
+    pub(crate) fn number(&self, node: Id, state: u32) -> usize
         requires node { is_among self.now.nodes node ≡ true }
         requires state { state < self.now.width }
         ensures { result ≡ number_of self.now.nodes self.now.width (pair node state) }
     {
         let place = place_of(self.nodes, node);
-        (place * self.width + state as usize) as u64
+        self.number_at(Spot { place, state })
+    }
+
+    // The number of the pair of the node at a place and a state.
+    pub(crate) fn number_at(&self, spot: Spot) -> usize
+        requires { IsSpot self.now.nodes self.now.width spot }
+        ensures { result ≡ number_of self.now.nodes self.now.width (pair_at self.now.nodes spot) }
+    {
+        spot.place * self.width + spot.state as usize
     }
 
     // Marks the pair of a node and a state, behind the others, where it is not marked yet.
@@ -88,9 +123,18 @@ impl<'a> Marks<'a> {
         ensures { OnOk result (self.new ≡ record self.old { pairs = visit self.old.pairs (pair node state) }) }
     {
         let place = place_of(self.nodes, node);
+        self.mark_at(place, state)
+    }
+
+    // Marks the pair of the node at a place and a state, behind the others, where it is not marked yet.
+    pub(crate) fn mark_at(&mut self, place: usize, state: u32) -> Result<(), Memory>
+        requires place { place < length self.old.nodes }
+        requires state { state < self.old.width }
+        ensures { OnOk result (self.new ≡ record self.old { pairs = visit self.old.pairs (pair (slice_index self.old.nodes place) state) }) }
+    {
         let at = place * self.width + state as usize;
         if !self.marked[at] {
-            self.pairs.push(Pair { node, state })?;
+            self.spots.push(Spot { place, state })?;
             self.marked[at] = true;
         }
         Ok(())
@@ -129,46 +173,13 @@ impl<'a> Marks<'a> {
     }
 }
 
-// The place of a number among ascending ones. Where they are close together, it is looked for first
-// where it stands if none is left out.
-fn place_of(nodes: &[Id], node: Id) -> usize
-    requires ascend { Ascends nat_cmp nodes.now }
-    requires among { is_among nodes.now node ≡ true }
-    ensures within { result < length nodes.now }
-    ensures there { slice_index nodes.now result ≡ node }
-    ensures place { result ≡ place_in nodes.now node }
+// The pair of one of some nodes and a state.
+fn pair_of(nodes: &[Id], spot: Spot) -> Pair
+    requires { spot.place < length nodes.now }
+    ensures { result ≡ pair_at nodes.now spot }
 {
-    let guess = guessed(nodes, node);
-    if stands_at(nodes, guess, node) {
-        guess
-    } else {
-        halved(nodes, node)
-    }
-}
-
-fn guessed(nodes: &[Id], node: Id) -> usize {
-    match nodes.first() {
-        None => 0,
-        Some(first) => node.get().saturating_sub(first.get()) as usize,
-    }
-}
-
-fn stands_at(nodes: &[Id], place: usize, node: Id) -> bool
-    ensures within { result ≡ true → place < length nodes.now }
-    ensures there { result ≡ true → slice_index nodes.now place ≡ node }
-{
-    place < nodes.len() && nodes[place] == node
-}
-
-// The same by halving.
-fn halved(nodes: &[Id], node: Id) -> usize
-    requires ascend { Ascends nat_cmp nodes.now }
-    requires among { is_among nodes.now node ≡ true }
-    ensures within { result < length nodes.now }
-    ensures there { slice_index nodes.now result ≡ node }
-{
-    match nodes.binary_search_by(|other| other.cmp(&node)) {
-        Ok(place) => place,
-        Err(gap) => gap,
+    Pair {
+        node: nodes[spot.place],
+        state: spot.state,
     }
 }

@@ -16,10 +16,10 @@ ghost use Rattle.gc_reach.specs.Turning.{steps_along, steps_into};
 use crate::exploring::settle;
 use crate::marks::Marks;
 use crate::reaching::IdList;
-use crate::turning::{Turn, keep, settle_back};
+use crate::turning::{Turn, by_pair, keep, settle_back};
 use gc_automata::runs_pass_the_conforming_walks;
 use gc_base::{Id, Memory, Sequence, Step, Steps};
-use gc_prod::{By, ByKey, Product};
+use gc_prod::{By, ByNumber, Product};
 use std::alloc::Global;
 use std::sync::ledger::Ledger;
 
@@ -60,14 +60,14 @@ fn add_steps(p: &Product, kept: &[Turn], passed: &mut Vec<Step>) -> Result<(), M
 fn passed_steps(
     alloc: Global,
     p: &Product,
-    kept: &ByKey<Turn>,
+    kept: &ByNumber<Turn>,
     marks: &Marks,
 ) -> Result<Vec<Step>, Memory>
     ensures { IfOk result (λ passed. passed.items ≡ steps_into p.now marks.now.nodes marks.now.width kept.now marks.now.pairs) }
 {
     let mut passed = Vec::new(alloc);
-    for at in marks.pairs() {
-        let number = marks.number(at.node, at.state);
+    for spot in marks.spots() {
+        let number = marks.number_at(*spot);
         add_steps(p, kept.at(number), &mut passed)?;
     }
     Ok(passed)
@@ -102,7 +102,8 @@ fn between<L: Ledger>(
     marks.mark(source, 0)?;
     settle(p, source, &mut marks, steps)?;
     let some = marks.has_pair(target, last);
-    let kept = ByKey::of(keep(alloc, p, &marks, steps)?)?;
+    let list = keep(alloc, p, &marks, steps)?;
+    let kept = by_pair(alloc, &list, marks.size())?;
     let mut back = Marks::of(alloc, nodes, width)?;
     settle_back(&kept, target, last, &mut back)?;
     let steps = passed_steps(alloc, p, &kept, &back)?;

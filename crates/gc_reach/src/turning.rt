@@ -1,6 +1,7 @@
 ghost use Rattle.std.specs.Prelude.{◌≡◌, ◌+◌, ◌<◌, ◌≤◌, ◌++◌, ◌∷◌, [], ℕ, length, map, true, IfOk, OnOk};
 ghost use Rattle.std.specs.List.{AllByRecursion};
 ghost use Rattle.gc_spec.specs.PropertyGraph.{is_among, node_ids};
+ghost use Rattle.gc_prod.specs.Groups.{row_of};
 ghost use Rattle.gc_prod.specs.Keys.{at_key};
 ghost use Rattle.gc_prod.specs.Leading.{pair};
 ghost use Rattle.gc_prod.specs.Products.{bundles, moved, moves, moves_by};
@@ -11,24 +12,16 @@ ghost use Rattle.gc_reach.specs.Turning.{turn, turns, turns_of, before};
 
 use crate::marks::Marks;
 use gc_base::{Id, Memory, Steps};
-use gc_prod::{Bundle, ByKey, Hop, Keyed, Move, Pair, Product};
+use gc_prod::{Bundle, ByNumber, Hop, Move, Pair, Product};
 use std::alloc::Global;
 use std::sync::ledger::Ledger;
 
 // A move, with the pair that it leaves and the number of the pair to which it leads.
 #[derive(Clone, Copy)]
 pub(crate) struct Turn {
-    pub(crate) number: u64,
+    pub(crate) number: usize,
     pub(crate) from: Pair,
     pub(crate) to: Move,
-}
-
-impl Keyed for Turn {
-    ghost key_of = { λ t. t.number };
-
-    fn key(&self) -> u64 {
-        self.number
-    }
 }
 
 // Keeps the moves of a pair by a bundle.
@@ -99,10 +92,26 @@ pub(crate) fn keep<L: Ledger>(
     ensures few { steps.new ≤ steps.old + most_moves p.now }
 {
     let mut kept = Vec::new(alloc);
-    for from in marks.pairs() {
-        keep_pair(p, from, marks, &mut kept, steps)?;
+    for spot in marks.spots() {
+        keep_pair(p, &marks.pair(*spot), marks, &mut kept, steps)?;
     }
     Ok(kept)
+}
+
+// Kept moves by the number of the pair to which they lead, of which each is below a number.
+pub(crate) fn by_pair(alloc: Global, kept: &[Turn], count: usize) -> Result<ByNumber<Turn>, Memory>
+    requires { AllByRecursion (λ t. t.number < count) kept.now }
+    ensures { IfOk result (λ sorted. (number : ℕ) → row_of sorted number ≡ at_key (λ t. t.number) number kept.now) }
+{
+    let numbers = numbers_of(alloc, kept)?;
+    ByNumber::of(alloc, kept, &numbers, count)
+}
+
+fn numbers_of(alloc: Global, kept: &[Turn]) -> Result<Vec<usize>, Memory>
+    ensures { IfOk result (λ numbers. numbers.items ≡ map (λ t. t.number) kept.now) }
+{
+    let numbers = kept.iter().map(|turn| turn.number).collect(alloc)?;
+    Ok(numbers)
 }
 
 // Marks the pairs that some kept moves leave.
@@ -119,15 +128,15 @@ fn go_back(kept: &[Turn], marks: &mut Marks) -> Result<(), Memory>
 
 // Marks a pair, and all pairs from which one is led to it, by going back along kept moves.
 pub(crate) fn settle_back(
-    kept: &ByKey<Turn>,
+    kept: &ByNumber<Turn>,
     node: Id,
     state: u32,
     marks: &mut Marks,
 ) -> Result<(), Memory>
     requires pair { IsNumbered marks.old.nodes marks.old.width (pair node state) }
     requires none { marks.old.pairs ≡ [] }
-    requires nodes { (key : ℕ) → AllByRecursion (λ t. is_among marks.old.nodes t.from.node ≡ true) (at_key (λ t. t.number) key kept.now) }
-    requires states { (key : ℕ) → AllByRecursion (λ t. t.from.state < marks.old.width) (at_key (λ t. t.number) key kept.now) }
+    requires nodes { (key : ℕ) → AllByRecursion (λ t. is_among marks.old.nodes t.from.node ≡ true) (row_of kept.now key) }
+    requires states { (key : ℕ) → AllByRecursion (λ t. t.from.state < marks.old.width) (row_of kept.now key) }
     ensures all { OnOk result (AreAll (before marks.new.nodes marks.new.width kept.now) marks.new.nodes (pair node state) marks.new.pairs) }
     ensures nodes { OnOk result (marks.new.nodes ≡ marks.old.nodes) }
     ensures width { OnOk result (marks.new.width ≡ marks.old.width) }
@@ -135,7 +144,7 @@ pub(crate) fn settle_back(
     marks.mark(node, state)?;
     let mut i = 0;
     while let Some(at) = marks.at(i) {
-        let number = marks.number(at.node, at.state);
+        let number = marks.number_at(at);
         go_back(kept.at(number), marks)?;
         i += 1;
     }

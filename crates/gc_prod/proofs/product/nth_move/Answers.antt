@@ -17,7 +17,7 @@ returns-then-left-bundle c =
     let h = c.index-bundle-left.result in
     ap (λ (m : Move). Some m) c.move_by.ensures
     ∙ ap (λ (g : Hop). let m : Option Move = Some (moved b.state g) in m) (sym c.index-bundle-left.is)
-    ∙ found_here (leg_bundle c.args.fans.now c.args.node) legs k c.loop-leg.left (get_or legs k none) b h _ c.loop-leg.invariant
+    ∙ found_here (leg_bundle c.args.fans.now c.args.place) legs k c.loop-leg.left (get_or legs k none) b h _ c.loop-leg.invariant
     (slice_get-get_or legs k none c.loop-leg-test.true) (c.bundle.view_is ∙ c.along-bundle.ensures) c.if-left-bundle.true
     (slice_get_read b.hops (length b.hops) c.loop-leg.left h refl c.if-left-bundle.true c.index-bundle-left.is)
 
@@ -27,5 +27,5 @@ loop-leg-preserved c =
     let k = c.loop-leg.leg-index in
     let legs = c.args.legs.now in
     let b : Bundle = record { state = c.bundle.inside.state; hops = c.bundle.inside.hops.now } in
-    found_later (leg_bundle c.args.fans.now c.args.node) legs k c.loop-leg.left (get_or legs k none) b _ c.loop-leg.invariant
+    found_later (leg_bundle c.args.fans.now c.args.place) legs k c.loop-leg.left (get_or legs k none) b _ c.loop-leg.invariant
     (slice_get-get_or legs k none c.loop-leg-test.true) (c.bundle.view_is ∙ c.along-bundle.ensures) c.if-left-bundle.false

@@ -6,5 +6,5 @@ use Rattle.gc_prod.proofs.product.nth_move.Given as goal
 
 abbrev pub invariant-loop-leg : goal.invariant-loop-leg
 invariant-loop-leg l =
-    slice_get (flat_map moves_by (map (leg_bundle l.fans l.node) (drop l.leg-index l.legs))) l.left
-    ≡ slice_get (flat_map moves_by (map (leg_bundle l.fans l.node) l.legs)) l.i
+    slice_get (flat_map moves_by (map (leg_bundle l.fans l.place) (drop l.leg-index l.legs))) l.left
+    ≡ slice_get (flat_map moves_by (map (leg_bundle l.fans l.place) l.legs)) l.i

@@ -7,4 +7,5 @@ invariant-loop-leg l = record {
   states : l.states ≤ l.width;
   some : 0 < l.width;
   above : AllByRecursion (λ leg. leg.to < l.width) (take l.leg-index l.legs);
+  left : AllByRecursion (λ leg. leg.from < l.width) (take l.leg-index l.legs);
 }

@@ -1,14 +1,13 @@
-use Rattle.std.proofs.Common.{◌≡◌, drop, map}
-use Rattle.gc_prod.specs.Leading.{target_of}
-use Rattle.gc_prod.specs.Products.{moved}
-use Rattle.gc_reach.specs.Exploring.{targets_by}
+use Rattle.std.proofs.Common.{◌≡◌, drop, get_or, map}
+use Rattle.gc_prod.specs.Leading.{pair}
+use Rattle.gc_reach.specs.Exploring.{landed}
 use Rattle.gc_reach.specs.Marking.{visit_all}
 use Rattle.gc_reach.proofs.exploring.follow.Given as goal
 
-abbrev pub invariant-loop-hop : goal.invariant-loop-hop
-invariant-loop-hop l = record {
+abbrev pub invariant-loop-place : goal.invariant-loop-place
+invariant-loop-place l = record {
   nodes : l.marks.nodes ≡ l.initial.marks.nodes;
   width : l.marks.width ≡ l.initial.marks.width;
-  rest : visit_all l.marks.pairs (map target_of (map (moved l.bundle.state) (drop l.hop-index l.bundle.hops)))
-      ≡ visit_all l.initial.marks.pairs (targets_by l.bundle);
+  rest : visit_all l.marks.pairs (map (λ p. pair (get_or l.initial.marks.nodes p 0) l.landing.state) (drop l.place-index l.landing.places))
+      ≡ visit_all l.initial.marks.pairs (landed l.initial.marks.nodes l.landing);
 }

@@ -3,7 +3,7 @@ use Rattle.std.specs.List.{AllByRecursion, slice_get}
 use Rattle.gc_prod.specs.declared.moves.Pair.{Pair}
 use Rattle.gc_prod.specs.Leading.{pair}
 use Rattle.gc_reach.specs.Exploring.{targets, AreFound, IsClosed, work}
-use Rattle.gc_reach.specs.Marking.{Marking, visit_all}
+use Rattle.gc_reach.specs.Marking.{Marking, pair_at, visit_all}
 use Rattle.gc_reach.proofs.FoundLaws.{targets_there, found_more, closed_more, work_more, few_taken, few_more}
 use Rattle.gc_reach.proofs.VisitLaws.{visit_all_grows, one_more, all_taken}
 use Rattle.gc_reach.proofs.exploring.settle.Goals as goal
@@ -12,11 +12,11 @@ pub returns-in_err-expand-clause-few : goal.returns-in_err-expand-clause-few
 returns-in_err-expand-clause-few g c =
     let inv = c.loop-at.invariant in
     let pairs = c.loop-at.marks.pairs in
-    omega (arith, inv.few, c.expand.ensures.few, few_more c.args.p.now c.in-Some.at pairs c.loop-at.i inv.found.apart (sym c.in-Some.ensures.exact))
+    omega (arith, inv.few, c.expand.ensures.few, few_more c.args.p.now (pair_at c.loop-at.marks.nodes c.in-Some.at) pairs c.loop-at.i inv.found.apart (sym c.in-Some.ensures.exact))
 
 pub overflow_add-i : goal.overflow_add-i
 overflow_add-i g c =
-    omega (arith, c.at.ensures.few, (one_more c.loop-at.marks.pairs c.loop-at.i c.in-Some.at (sym c.in-Some.ensures.exact)).0)
+    omega (arith, c.at.ensures.few, (one_more c.loop-at.marks.pairs c.loop-at.i (pair_at c.loop-at.marks.nodes c.in-Some.at) (sym c.in-Some.ensures.exact)).0)
 
 pub loop-at-smaller : goal.loop-at-smaller
 loop-at-smaller g c =
@@ -24,7 +24,7 @@ loop-at-smaller g c =
     omega (
       arith,
       c.at.ensures.within,
-      (one_more c.loop-at.marks.pairs c.loop-at.i c.in-Some.at (sym c.in-Some.ensures.exact)).0,
+      (one_more c.loop-at.marks.pairs c.loop-at.i (pair_at c.loop-at.marks.nodes c.in-Some.at) (sym c.in-Some.ensures.exact)).0,
       ap (λ (m : Marking). length m.nodes * m.width) grown,
     )
 
@@ -35,7 +35,7 @@ loop-at-preserved g c =
     let nodes = c.loop-at.marks.nodes in
     let pairs = c.loop-at.marks.pairs in
     let i = c.loop-at.i in
-    let at = c.in-Some.at in
+    let at = pair_at nodes c.in-Some.at in
     let from = pair c.args.source 0 in
     let here : slice_get pairs i ≡ Some at = sym c.in-Some.ensures.exact in
     let grown = c.in_ok-expand.ensures.marks in

@@ -1,0 +1,48 @@
+ghost use Rattle.std.specs.Prelude.{◌≡◌, ◌<◌, length, true, slice_index};
+ghost use Rattle.std.specs.Ordering.{nat_cmp};
+ghost use Rattle.gc_base.specs.Ascending.{Ascends};
+ghost use Rattle.gc_spec.specs.PropertyGraph.{is_among};
+ghost use Rattle.gc_prod.specs.Places.{place_in};
+
+use gc_base::Id;
+
+/// The place of a number among ascending ones, or how many these are where it is not among them. Where
+/// they are close together, it is looked for first where it stands if none is left out.
+pub fn place_of(nodes: &[Id], node: Id) -> usize
+    requires { Ascends nat_cmp nodes.now }
+    ensures place { result ≡ place_in nodes.now node }
+    ensures within { is_among nodes.now node ≡ true → result < length nodes.now }
+    ensures there { is_among nodes.now node ≡ true → slice_index nodes.now result ≡ node }
+{
+    let guess = guessed(nodes, node);
+    if stands_at(nodes, guess, node) {
+        guess
+    } else {
+        halved(nodes, node)
+    }
+}
+
+fn guessed(nodes: &[Id], node: Id) -> usize {
+    match nodes.first() {
+        None => 0,
+        Some(first) => node.get().saturating_sub(first.get()) as usize,
+    }
+}
+
+fn stands_at(nodes: &[Id], place: usize, node: Id) -> bool
+    ensures within { result ≡ true → place < length nodes.now }
+    ensures there { result ≡ true → slice_index nodes.now place ≡ node }
+{
+    place < nodes.len() && nodes[place] == node
+}
+
+// The same by halving.
+fn halved(nodes: &[Id], node: Id) -> usize
+    requires { Ascends nat_cmp nodes.now }
+    ensures { result ≡ place_in nodes.now node }
+{
+    match nodes.binary_search_by(|other| other.cmp(&node)) {
+        Ok(place) => place,
+        Err(_) => nodes.len(),
+    }
+}
