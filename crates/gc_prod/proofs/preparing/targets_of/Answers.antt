@@ -1,4 +1,4 @@
-use Rattle.std.proofs.Common.{◌≡◌, ◌∙◌, ℕ, List, map, length, ap}
+use Rattle.std.proofs.Common.{◌∙◌, ℕ, List, map, length, ap}
 use Rattle.std.proofs.lemmas.List.{length-map}
 use Rattle.std.proofs.lemmas.Result.{IfOk-weaker}
 use Rattle.gc_prod.specs.declared.moves.Hop.{Hop}
