@@ -7,7 +7,8 @@ ghost use Rattle.gc_prod.specs.Places.{place_in};
 use gc_base::Id;
 
 /// The place of a number among ascending ones, or how many these are where it is not among them. Where
-/// they are close together, it is looked for first where it stands if none is left out.
+/// they are close together, it is looked for first where it stands if none is left out, then where it
+/// stands if they are spread evenly.
 pub fn place_of(nodes: &[Id], node: Id) -> usize
     requires { Ascends nat_cmp nodes.now }
     ensures place { result ≡ place_in nodes.now node }
@@ -18,8 +19,34 @@ pub fn place_of(nodes: &[Id], node: Id) -> usize
     if stands_at(nodes, guess, node) {
         guess
     } else {
+        sought(nodes, node)
+    }
+}
+
+// The same, where some are left out.
+fn sought(nodes: &[Id], node: Id) -> usize
+    requires { Ascends nat_cmp nodes.now }
+    ensures { result ≡ place_in nodes.now node }
+{
+    let guess = spread(nodes, node);
+    if stands_at(nodes, guess, node) {
+        guess
+    } else {
         halved(nodes, node)
     }
+}
+
+fn spread(nodes: &[Id], node: Id) -> usize {
+    let Some(first) = nodes.first() else {
+        return 0;
+    };
+    let Some(last) = nodes.last() else {
+        return 0;
+    };
+    let width = last.get().saturating_sub(first.get());
+    let ahead = node.get().saturating_sub(first.get());
+    let most = nodes.len().saturating_sub(1) as u64;
+    ahead.saturating_mul(most).checked_div(width).unwrap_or(0) as usize
 }
 
 fn guessed(nodes: &[Id], node: Id) -> usize {

@@ -13,7 +13,7 @@ returns-then-stands_at c =
 pub returns-else-stands_at : goal.returns-else-stands_at
 returns-else-stands_at c =
     record {
-      place = c.halved.ensures;
-      within = λ among. subst (λ n. n < length c.args.nodes.now) (sym c.halved.ensures) (place_there c.args.nodes.now c.args.node among).within;
-      there = λ among. ap (λ n. get_or c.args.nodes.now n 0) c.halved.ensures ∙ (place_there c.args.nodes.now c.args.node among).at;
+      place = c.sought.ensures;
+      within = λ among. subst (λ n. n < length c.args.nodes.now) (sym c.sought.ensures) (place_there c.args.nodes.now c.args.node among).within;
+      there = λ among. ap (λ n. get_or c.args.nodes.now n 0) c.sought.ensures ∙ (place_there c.args.nodes.now c.args.node among).at;
     }

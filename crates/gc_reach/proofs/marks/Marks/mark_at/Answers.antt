@@ -1,4 +1,4 @@
-use Rattle.std.proofs.Common.{◌≡◌, ◌∷◌, [], ◌++◌, ap, sym, subst, List, map, set, false, true, length, ◌+◌, ◌*◌, ◌<◌, ◌∙◌, get_or, arith}
+use Rattle.std.proofs.Common.{◌≡◌, ◌∷◌, [], ap, sym, subst, List, map, set, false, true, length, ◌+◌, ◌*◌, ◌<◌, ◌∙◌, get_or, arith}
 use Rattle.std.specs.List.{AllByRecursion}
 use Rattle.std.proofs.lemmas.List.{map-append}
 use Rattle.gc_base.proofs.SetLaws.{AllByRecursion-append}
