@@ -1,4 +1,4 @@
--- Which rows of trees are built, tree by tree, and which queries, by their heads, their first term and those behind it.
+-- Where a row of trees is built, each tree is, and where a query is, its heads, its first term and those behind it are.
 use Rattle.std.proofs.Common.{◌≡◌, ℕ, ◌+◌, Bool, true, false, ◌&&◌, List, map, drop, Some, ap, refl, sym, ◌∙◌, slice_get}
 use Rattle.gc_ast.specs.declared.query.NextTerm.{NextTerm, out-NextTerm}
 use Rattle.gc_ast.specs.declared.query.Query.{Query, out-Query}
@@ -8,7 +8,7 @@ use Rattle.gc_ast.specs.Trees as tree
 use Rattle.gc_expr.specs.Views.{Names}
 use Rattle.gc_lower.specs.Scopes.{Scope}
 use Rattle.gc_query.specs.Built.{built}
-use Rattle.gc_query.proofs.AllOf.{drop_at, is_false, is_true}
+use Rattle.gc_query.proofs.AllOf.{drop_at}
 use Rattle.gc_query.proofs.BuiltParts.{of_query}
 use Rattle.gc_query.proofs.QueryParts.{next_parts}
 
@@ -34,14 +34,6 @@ module _ (s : Scope) {k : Kind} {X : Type 0} (tree_of : X → Tree k) where
 
   pub later_are : (xs : List X) (i : ℕ) (x : X) → slice_get xs i ≡ Some x → row_built (drop i xs) ≡ true → row_built (drop (i + 1) xs) ≡ true
   later_are xs i x at h = second_true _ _ (sym (one_more xs i x at) ∙ h)
-
-  -- one that is not built, and one that is
-  pub not_next : (xs : List X) (i : ℕ) (x : X) → slice_get xs i ≡ Some x → (told : Bool) → told ≡ built s (tree_of x) → told ≡ false → row_built (drop i xs) ≡ row_built xs → false ≡ row_built xs
-  not_next xs i x at told same failed left = sym (one_more xs i x at ∙ ap (λ b. b && row_built (drop (i + 1) xs)) (is_false _ told same failed)) ∙ left
-
-  pub next_holds : (xs : List X) (i : ℕ) (x : X) → slice_get xs i ≡ Some x → (told : Bool) → told ≡ built s (tree_of x) → told ≡ true → row_built (drop i xs) ≡ row_built xs
-      → row_built (drop (i + 1) xs) ≡ row_built xs
-  next_holds xs i x at told same holds left = sym (one_more xs i x at ∙ ap (λ b. b && row_built (drop (i + 1) xs)) (is_true _ told same holds)) ∙ left
 
 module _ (s : Scope) (names : Names) where
   -- the row of what is left, by the term that is next
@@ -69,16 +61,3 @@ module _ (s : Scope) (names : Names) where
 
   pub rest_is : (q : Query) → built s (query_tree names q) ≡ true → rest_built q ≡ true
   rest_is q h = second_true (first_built q) _ (second_true (heads_built q) _ (sym (of_query s names q) ∙ h))
-
-  -- a query whose heads are not built, one whose first term is not, and one of which both are
-  pub without_heads : (q : Query) (heads : Bool) → heads ≡ heads_built q → heads ≡ false → false ≡ built s (query_tree names q)
-  without_heads q heads same failed = sym (of_query s names q ∙ ap (λ b. b && (first_built q && rest_built q)) (is_false _ heads same failed))
-
-  module _ (q : Query) (heads first : Bool) (same : heads ≡ heads_built q) (holds : heads ≡ true) (alike : first ≡ first_built q) where
-    pub without_first : first ≡ false → false ≡ built s (query_tree names q)
-    without_first failed =
-        sym (of_query s names q ∙ ap (λ b. b && (first_built q && rest_built q)) (is_true _ heads same holds) ∙ ap (λ b. b && rest_built q) (is_false _ first alike failed))
-
-    pub by_rest : first ≡ true → (rest : Bool) → rest ≡ rest_built q → rest ≡ built s (query_tree names q)
-    by_rest well rest is =
-        is ∙ sym (of_query s names q ∙ ap (λ b. b && (first_built q && rest_built q)) (is_true _ heads same holds) ∙ ap (λ b. b && rest_built q) (is_true _ first alike well))

@@ -2,6 +2,7 @@ pub mod Answered
 pub mod Basics
 pub mod Built
 pub mod Costs
+pub mod Expressions
 pub mod Outcomes
 pub mod Queries
 pub mod Segments

@@ -1,10 +1,20 @@
-ghost use Rattle.std.specs.Prelude.{◌≡◌};
-ghost use Rattle.gc_ast.specs.Trees.{AStatement, Tree};
+ghost use Rattle.std.specs.Prelude.{◌≡◌, true, None};
+ghost use Rattle.gc_ast.specs.Trees.{AStatement, Tree, row};
+ghost use Rattle.gc_sorts.specs.SortRules.{first_breach};
+ghost use Rattle.gc_lower.specs.Namings.{QueryFile};
 ghost use Rattle.gc_lower.specs.Scopes.{Scope};
+ghost use Rattle.gc_query.specs.Built.{is_built};
+ghost use Rattle.gc_query.specs.Expressions.{EachHasParts};
 ghost use Rattle.gc_query.specs.Sessions.{Answer, Answers};
 ghost use Rattle.gc_query.specs.Standings.{Standing};
 
 /// What stands tells the answer of a statement: it comes to no two.
 pub fn a_statement_comes_to_one_answer()
     ensures { (s : Scope) (at : Standing) (statement : Tree AStatement) (a b : Answer) → Answers s at statement a → Answers s at statement b → a ≡ b }
+{}
+
+/// A query file is built where it breaks no sort rule and no juxtaposition in its regular path expressions
+/// is of no parts, which the grammar gives none.
+pub fn a_file_that_breaks_no_rule_is_built()
+    ensures { (f : QueryFile) → EachHasParts (row f.statements) → first_breach f.graphs (row f.statements) ≡ None → is_built f ≡ true }
 {}

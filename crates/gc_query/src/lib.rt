@@ -1,12 +1,9 @@
 //! What the statements of a query file come to. Others rely on `step`, which evaluates one statement over the
-//! graphs of a session as the definitions say, and on `is_built`. This crate reads no text and knows of no
-//! folder.
+//! graphs of a session as the definitions say. This crate reads no text and knows of no folder.
 #![tactic(auto)]
 
 mod agreeing;
 mod basics;
-mod blocks;
-mod built;
 mod combining;
 mod costs;
 mod fault;
@@ -23,7 +20,6 @@ mod steps;
 mod tables;
 mod used_views;
 
-pub use built::is_built;
 pub use fault::{Fault, QueryRefusal};
-pub use laws::a_statement_comes_to_one_answer;
+pub use laws::{a_file_that_breaks_no_rule_is_built, a_statement_comes_to_one_answer};
 pub use steps::step;

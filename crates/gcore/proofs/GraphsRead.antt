@@ -124,7 +124,7 @@ stops told pairs before p after seen gs first middle last (Refused refusal file)
     (turn told pairs before p after gs file split h.0 due, due_of told pairs before p after seen gs (Refused refusal file) split stands due h.1)
 stops told pairs before p after seen gs first middle last (Text refusal) split stands due le h = absurd h
 stops told pairs before p after seen gs first middle last (Sorts rule place) split stands due le h = absurd h
-stops told pairs before p after seen gs first middle last NotBuilt split stands due le h = due_of told pairs before p after seen gs NotBuilt split stands due h
+stops told pairs before p after seen gs first middle last NotBuilt split stands due le h = absurd h
 stops told pairs before p after seen gs first middle last (Faulted fault) split stands due le h = absurd h
 stops told pairs before p after seen gs first middle last NoGraph split stands due le h = absurd h
 stops told pairs before p after seen gs first middle last Unwritten split stands due le h = absurd h

@@ -6,3 +6,7 @@ pub mod SortedFiles
 pub mod TextPlaces
 pub mod SessionLaws
 pub mod StatementLaws
+pub mod BuiltQueries
+pub mod Languages
+pub mod SpelledPatterns
+pub mod SpelledQueries

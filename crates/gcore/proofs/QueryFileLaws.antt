@@ -1,6 +1,5 @@
 -- What a query file asks for, by the statements that its tokens spell or the place of its refusal.
-use Rattle.std.proofs.Common.{◌≡◌, ℕ, Bool, true, false, List, Option, Some, None, Result, Ok, Err, refl, ap, ◌∙◌, arith, slice_get}
-use Rattle.std.specs.Prelude.{if◌then◌else◌}
+use Rattle.std.proofs.Common.{◌≡◌, ℕ, List, Option, Some, None, Result, Ok, Err, refl, ap, ◌∙◌, arith, slice_get}
 use Rattle.gc_base.specs.declared.place.Place.{Place}
 use Rattle.gc_lex.specs.declared.refusal.LexRefusal.{LexRefusal}
 use Rattle.gc_lex.specs.declared.refusal.LexRefusal.TheVariants as lex
@@ -15,12 +14,10 @@ use Rattle.gc_parse.specs.Parses.{parsed}
 use Rattle.gc_sorts.specs.declared.breach.Breach.{Breach}
 use Rattle.gc_sorts.specs.declared.breach.SortRule.{SortRule}
 use Rattle.gc_sorts.specs.SortRules.{first_breach}
-use Rattle.gcore.specs.Outcomes.{asked_of, query_of, then_due}
-use Rattle.gcore.specs.QueryFiles.{PlacedFile, breach_place, file_over, first_place, query_file_at, query_file_in, sorted_at, token_place, unless_broken}
+use Rattle.gcore.specs.QueryFiles.{PlacedFile, breach_place, file_over, first_place, query_file_at, query_file_in, query_file_of, sorted_at, token_place, unless_broken}
 use Rattle.gc_lower.specs.Namings.{QueryFile}
 use Rattle.gc_parse_source.specs.Sources.{names_among}
-use Rattle.gc_query.specs.Built.{is_built}
-use Rattle.gcore.specs.declared.stop.Stop.TheVariants.{NotBuilt, Sorts, Text}
+use Rattle.gcore.specs.declared.stop.Stop.TheVariants.{Sorts, Text}
 use Rattle.gcore.specs.declared.text_refusal.TextRefusal.{TextRefusal}
 use Rattle.gcore.specs.declared.text_refusal.TextRefusal.TheVariants.{TooDeep, Syntax}
 use Rattle.gcore.proofs.TextPlaces.{places_count, item_there, deep_within}
@@ -29,39 +26,31 @@ use Rattle.gc_parse.proofs.ParsedLaws.{parsed_spelled, parsed_deep, parsed_refus
 abbrev at_places : List Place → QueryFile → PlacedFile
 at_places places file = record { file = file; places = places }
 
-not_text : (t : Bool) (p : PlacedFile) (refusal : TextRefusal) → (if t then Ok p else Err NotBuilt) ≡ Err (Text refusal) → ⊥
-not_text true p refusal h = cc
-not_text false p refusal h = cc
-
-not_sorts : (t : Bool) (p : PlacedFile) (rule : SortRule) (place : Place) → (if t then Ok p else Err NotBuilt) ≡ Err (Sorts rule place) → ⊥
-not_sorts true p rule place h = cc
-not_sorts false p rule place h = cc
-
-sorted_no_text : (places : List Place) (file : QueryFile) (found : Option Breach) (refusal : TextRefusal) → then_due (unless_broken places file found) asked_of ≡ Err (Text refusal) → ⊥
-sorted_no_text places file None refusal h = not_text (is_built file) (at_places places file) refusal h
+sorted_no_text : (places : List Place) (file : QueryFile) (found : Option Breach) (refusal : TextRefusal) → unless_broken places file found ≡ Err (Text refusal) → ⊥
+sorted_no_text places file None refusal h = cc
 sorted_no_text places file (Some breach) refusal h = cc
 
 module _ (graphs : List (List ℕ)) where
-  deep_parse : (names : List (List ℕ)) (places : List Place) (r : Result (List (Tree AStatement)) ParseRefusal) (place : Place) → then_due (query_file_at graphs names places r) asked_of ≡ Err (Text (TooDeep place))
+  deep_parse : (names : List (List ℕ)) (places : List Place) (r : Result (List (Tree AStatement)) ParseRefusal) (place : Place) → query_file_at graphs names places r ≡ Err (Text (TooDeep place))
       → (k : ℕ) × (r ≡ Err (parse.TooDeep k)) × (token_place places k ≡ place)
   deep_parse names places (Ok statements) place h = absurd (sorted_no_text places (file_over graphs names statements) (first_breach graphs (row statements)) (TooDeep place) h)
   deep_parse names places (Err (parse.TooDeep k)) place h = (k, refl, cc)
   deep_parse names places (Err (parse.Syntax k)) place h = absurd (cc)
   deep_parse names places (Err parse.Memory) place h = absurd (cc)
 
-  refused_parse : (names : List (List ℕ)) (places : List Place) (r : Result (List (Tree AStatement)) ParseRefusal) (place : Place) → then_due (query_file_at graphs names places r) asked_of ≡ Err (Text (Syntax place))
+  refused_parse : (names : List (List ℕ)) (places : List Place) (r : Result (List (Tree AStatement)) ParseRefusal) (place : Place) → query_file_at graphs names places r ≡ Err (Text (Syntax place))
       → (k : ℕ) × (r ≡ Err (parse.Syntax k)) × (token_place places k ≡ place)
   refused_parse names places (Ok statements) place h = absurd (sorted_no_text places (file_over graphs names statements) (first_breach graphs (row statements)) (Syntax place) h)
   refused_parse names places (Err (parse.TooDeep k)) place h = absurd (cc)
   refused_parse names places (Err (parse.Syntax k)) place h = (k, refl, cc)
   refused_parse names places (Err parse.Memory) place h = absurd (cc)
 
-  breach_of : (places : List Place) (file : QueryFile) (found : Option Breach) (rule : SortRule) (place : Place) → then_due (unless_broken places file found) asked_of ≡ Err (Sorts rule place)
+  breach_of : (places : List Place) (file : QueryFile) (found : Option Breach) (rule : SortRule) (place : Place) → unless_broken places file found ≡ Err (Sorts rule place)
       → (breach : Breach) × (found ≡ Some breach) × (rule ≡ breach.rule) × (place ≡ breach_place places breach)
-  breach_of places file None rule place h = absurd (not_sorts (is_built file) (at_places places file) rule place h)
+  breach_of places file None rule place h = absurd (cc)
   breach_of places file (Some breach) rule place h = (breach, refl, cc, cc)
 
-  broken_parse : (names : List (List ℕ)) (places : List Place) (r : Result (List (Tree AStatement)) ParseRefusal) (rule : SortRule) (place : Place) → then_due (query_file_at graphs names places r) asked_of ≡ Err (Sorts rule place)
+  broken_parse : (names : List (List ℕ)) (places : List Place) (r : Result (List (Tree AStatement)) ParseRefusal) (rule : SortRule) (place : Place) → query_file_at graphs names places r ≡ Err (Sorts rule place)
       → (statements : List (Tree AStatement)) × (breach : Breach) × (r ≡ Ok statements) × (first_breach graphs (row statements) ≡ Some breach) × (rule ≡ breach.rule) × (place ≡ breach_place places breach)
   broken_parse names places (Ok statements) rule place h =
       let found = breach_of places (file_over graphs names statements) (first_breach graphs (row statements)) rule place h in
@@ -70,7 +59,7 @@ module _ (graphs : List (List ℕ)) where
   broken_parse names places (Err (parse.Syntax k)) rule place h = absurd (cc)
   broken_parse names places (Err parse.Memory) rule place h = absurd (cc)
 
-  deep_tokens : (l : Result TokenList LexRefusal) (place : Place) → then_due (query_file_in graphs l) asked_of ≡ Err (Text (TooDeep place))
+  deep_tokens : (l : Result TokenList LexRefusal) (place : Place) → query_file_in graphs l ≡ Err (Text (TooDeep place))
       → (list : TokenList) × (l ≡ Ok list) × ((k : ℕ) × (parsed list.tokens ≡ Err (parse.TooDeep k)) × (token_place list.places k ≡ place))
   deep_tokens (Ok list) place h = (list, refl, deep_parse (names_among list.tokens) list.places (parsed list.tokens) place h)
   deep_tokens (Err (lex.NotUtf8 p)) place h = absurd (cc)
@@ -79,7 +68,7 @@ module _ (graphs : List (List ℕ)) where
   deep_tokens (Err (lex.NumberTooLarge p)) place h = absurd (cc)
   deep_tokens (Err lex.Memory) place h = absurd (cc)
 
-  refused_tokens : (l : Result TokenList LexRefusal) (place : Place) → then_due (query_file_in graphs l) asked_of ≡ Err (Text (Syntax place))
+  refused_tokens : (l : Result TokenList LexRefusal) (place : Place) → query_file_in graphs l ≡ Err (Text (Syntax place))
       → (list : TokenList) × (l ≡ Ok list) × ((k : ℕ) × (parsed list.tokens ≡ Err (parse.Syntax k)) × (token_place list.places k ≡ place))
   refused_tokens (Ok list) place h = (list, refl, refused_parse (names_among list.tokens) list.places (parsed list.tokens) place h)
   refused_tokens (Err (lex.NotUtf8 p)) place h = absurd (cc)
@@ -88,7 +77,7 @@ module _ (graphs : List (List ℕ)) where
   refused_tokens (Err (lex.NumberTooLarge p)) place h = absurd (cc)
   refused_tokens (Err lex.Memory) place h = absurd (cc)
 
-  broken_tokens : (l : Result TokenList LexRefusal) (rule : SortRule) (place : Place) → then_due (query_file_in graphs l) asked_of ≡ Err (Sorts rule place)
+  broken_tokens : (l : Result TokenList LexRefusal) (rule : SortRule) (place : Place) → query_file_in graphs l ≡ Err (Sorts rule place)
       → (list : TokenList) × (statements : List (Tree AStatement)) × (breach : Breach) × (l ≡ Ok list) × (parsed list.tokens ≡ Ok statements) × (first_breach graphs (row statements) ≡ Some breach) × (rule ≡ breach.rule) × (place ≡ breach_place list.places breach)
   broken_tokens (Ok list) rule place h =
       let found = broken_parse (names_among list.tokens) list.places (parsed list.tokens) rule place h in
@@ -101,22 +90,22 @@ module _ (graphs : List (List ℕ)) where
 
   -- the statements that are spelled are tested against the sort rules
   asked_as_sorted : (text : List ℕ) (list : TokenList) (statements : List (Tree AStatement)) → lexed text ≡ Ok list → IsDepthFault list.tokens None → SpellsFile list.tokens statements
-      → query_of graphs text ≡ then_due (sorted_at list.places (file_over graphs (names_among list.tokens) statements)) asked_of
+      → query_file_of graphs text ≡ sorted_at list.places (file_over graphs (names_among list.tokens) statements)
   asked_as_sorted text list statements h none spelled =
-      ap (λ l. then_due (query_file_in graphs l) asked_of) h ∙ ap (λ r. then_due (query_file_at graphs (names_among list.tokens) list.places r) asked_of) (parsed_spelled list.tokens statements none spelled)
+      ap (query_file_in graphs) h ∙ ap (query_file_at graphs (names_among list.tokens) list.places) (parsed_spelled list.tokens statements none spelled)
 
   -- the laws of query files
   pub asked_as_spelled : (text : List ℕ) (list : TokenList) (statements : List (Tree AStatement)) → lexed text ≡ Ok list → IsDepthFault list.tokens None → SpellsFile list.tokens statements
-      → first_breach graphs (row statements) ≡ None → query_of graphs text ≡ asked_of (at_places list.places (file_over graphs (names_among list.tokens) statements))
+      → first_breach graphs (row statements) ≡ None → query_file_of graphs text ≡ Ok (at_places list.places (file_over graphs (names_among list.tokens) statements))
   asked_as_spelled text list statements h none spelled sorted =
-      asked_as_sorted text list statements h none spelled ∙ ap (λ found. then_due (unless_broken list.places (file_over graphs (names_among list.tokens) statements) found) asked_of) sorted
+      asked_as_sorted text list statements h none spelled ∙ ap (unless_broken list.places (file_over graphs (names_among list.tokens) statements)) sorted
 
   pub told_as_broken : (text : List ℕ) (list : TokenList) (statements : List (Tree AStatement)) (breach : Breach) → lexed text ≡ Ok list → IsDepthFault list.tokens None → SpellsFile list.tokens statements
-      → first_breach graphs (row statements) ≡ Some breach → query_of graphs text ≡ Err (Sorts breach.rule (breach_place list.places breach))
+      → first_breach graphs (row statements) ≡ Some breach → query_file_of graphs text ≡ Err (Sorts breach.rule (breach_place list.places breach))
   told_as_broken text list statements breach h none spelled broken =
-      asked_as_sorted text list statements h none spelled ∙ ap (λ found. then_due (unless_broken list.places (file_over graphs (names_among list.tokens) statements) found) asked_of) broken
+      asked_as_sorted text list statements h none spelled ∙ ap (unless_broken list.places (file_over graphs (names_among list.tokens) statements)) broken
 
-  pub broken_as_told : (text : List ℕ) (rule : SortRule) (place : Place) → query_of graphs text ≡ Err (Sorts rule place)
+  pub broken_as_told : (text : List ℕ) (rule : SortRule) (place : Place) → query_file_of graphs text ≡ Err (Sorts rule place)
       → (list : TokenList) × (statements : List (Tree AStatement)) × (breach : Breach) × (lexed text ≡ Ok list) × IsDepthFault list.tokens None × SpellsFile list.tokens statements
       × (first_breach graphs (row statements) ≡ Some breach) × (rule ≡ breach.rule) × (place ≡ breach_place list.places breach)
   broken_as_told text rule place h =
@@ -124,7 +113,7 @@ module _ (graphs : List (List ℕ)) where
       let spells = parsed_spells found.0.tokens found.1 found.4 in
       (found.0, found.1, found.2, found.3, spells.0, spells.1, found.5, found.6, found.7)
 
-  pub asked_too_deep : (text : List ℕ) (place : Place) → query_of graphs text ≡ Err (Text (TooDeep place))
+  pub asked_too_deep : (text : List ℕ) (place : Place) → query_file_of graphs text ≡ Err (Text (TooDeep place))
       → (list : TokenList) × (k : ℕ) × (lexed text ≡ Ok list) × (slice_get list.places k ≡ Some place) × IsDepthFault list.tokens (Some k)
   asked_too_deep text place h =
       let found = deep_tokens (lexed text) place h in
@@ -135,7 +124,7 @@ module _ (graphs : List (List ℕ)) where
       let count = places_count text list found.1 in
       (list, k, found.1, item_there list.places k place first_place (omega (arith, count, within)) found.2.2, fault)
 
-  pub asked_refused : (text : List ℕ) (place : Place) → query_of graphs text ≡ Err (Text (Syntax place))
+  pub asked_refused : (text : List ℕ) (place : Place) → query_file_of graphs text ≡ Err (Text (Syntax place))
       → (list : TokenList) × (k : ℕ) × (lexed text ≡ Ok list) × (slice_get list.places k ≡ Some place) × IsRefusedAt SpellsFile list.tokens k
   asked_refused text place h =
       let found = refused_tokens (lexed text) place h in

@@ -17,7 +17,7 @@ use Rattle.gc_query.specs.Sessions as says
 use Rattle.gc_query.specs.Standings.{Standing, Made}
 use Rattle.gc_query.specs.declared.fault.Fault.{Fault}
 use Rattle.gc_spec.specs.PropertyGraph.{PropertyGraph}
-use Rattle.gcore.specs.Endings.{Change, EndsAtFault, Failed, Gains, GainsNothing, GainsPrefix, HoldsTexts, RunsSession, WritesAsked, WritesBeginning, stop_of_fault}
+use Rattle.gcore.specs.Endings.{Change, EndsAtFault, Failed, Gains, GainsNothing, GainsPrefix, HoldsTexts, RunsSession, WritesBeginning, stop_of_fault}
 use Rattle.gcore.specs.Outcomes.{Prints, PrintsFirst, Request, beginning, printed, texts}
 use Rattle.gcore.specs.QueryFiles.{PlacedFile}
 use Rattle.gcore.specs.SessionSteps.{GoesWell, HoldsPrinted, IsAtFault, IsCut, IsPrinted, RunsStatement, RunsStatementAt, Turn}
@@ -246,15 +246,3 @@ module _ (r : Request) where
 pub session_stops : (r : Request) (out : Change) (result : Result (Unit {0}) Stop) (stop : Stop) → IsErr result → IsErrAnd result (λ refusal. refusal ≡ stop) → RunsSession r out (Err stop) → RunsSession r out result
 session_stops r out (Ok done) stop err same h = absurd same
 session_stops r out (Err refusal) stop err same h = subst (λ x. RunsSession r out (Err x)) (sym same) h
-
--- nothing of what is asked for was written, for want of memory
-pub asked_for_nothing : (graphs : List PropertyGraph) (asked : Result PlacedFile Stop) (out : Change) → GainsNothing out → WritesAsked graphs asked out (Err OutOfMemory)
-asked_for_nothing graphs (Ok query) out h =
-    let r : Request = record { graphs = graphs; query = query } in
-    ([], so_far_begins r 0 (beginning graphs) [] (at_first r), ([], [], refl, h ∙ sym (known_nothing out.taken_before)))
-asked_for_nothing graphs (Err stop) out h = h
-
-pub asked_wants : (graphs : List PropertyGraph) (asked : Result PlacedFile Stop) (out : Change) (result : Result (Unit {0}) Stop) → IsErr result → IsErrAnd result (λ refusal. refusal ≡ OutOfMemory) → GainsNothing out
-    → WritesAsked graphs asked out result
-asked_wants graphs asked out (Ok done) err same h = absurd same
-asked_wants graphs asked out (Err refusal) err same h = subst (λ x. WritesAsked graphs asked out (Err x)) (sym same) (asked_for_nothing graphs asked out h)

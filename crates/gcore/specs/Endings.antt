@@ -12,7 +12,7 @@ use Rattle.gcore.specs.FaultLines.{IsHeldFault, walk_text}
 use Rattle.gcore.specs.GraphLines.{IsHeld}
 use Rattle.gcore.specs.Lines.{line_of, status_of}
 use Rattle.gcore.specs.Outcomes.{IsAsked, Prints, PrintsFirst, Request, graphs_due, outcome, texts}
-use Rattle.gcore.specs.QueryFiles.{PlacedFile, place_at}
+use Rattle.gcore.specs.QueryFiles.{place_at}
 use Rattle.gcore.specs.TextLines.{IsHeldPlace, IsHeldText}
 use Rattle.gcore.specs.declared.command.Command.{Command}
 use Rattle.gcore.specs.declared.command.Command.TheVariants.{Run, Cert, Explain, Check, Make}
@@ -153,6 +153,14 @@ IsReachedGraph call file = IsSomeAnd call.command (λ command. IsTurnOfGraph cal
 abbrev pub IsReachedQuery : Call → Type 0
 IsReachedQuery call = IsSomeAnd call.command (λ command. IsTurnOfItsQuery call.files command)
 
+-- a command that is not built yet
+abbrev pub IsUnbuilt : Command → Type 0
+IsUnbuilt (Run query pairs) = ⊥
+IsUnbuilt (Cert query pairs) = ⊤
+IsUnbuilt (Explain query pairs) = ⊤
+IsUnbuilt (Check document) = ⊤
+IsUnbuilt (Make kind size start) = ⊤
+
 -- a file can't be read: where the files are told that is due, or the folder's count rose; else the count rose
 abbrev pub IsUnread : Call → List ℕ → Type 0
 IsUnread call file = MatchOption call.files (ReadFault call) (λ files. (outcome call.command files ≡ Err (Unread file)) ⊎ ReadFault call)
@@ -165,7 +173,7 @@ StopsFor call (TooLarge file) = IsReached call file × IsDue call (TooLarge file
 StopsFor call (Refused refusal file) = IsReachedGraph call file × IsDue call (Refused refusal file) × GainsNothing call.out
 StopsFor call (Text refusal) = IsReachedQuery call × IsDue call (Text refusal) × GainsNothing call.out
 StopsFor call (Sorts rule place) = IsReachedQuery call × IsDue call (Sorts rule place) × GainsNothing call.out
-StopsFor call NotBuilt = IsSome call.command × IsDue call NotBuilt × GainsNothing call.out
+StopsFor call NotBuilt = IsSomeAnd call.command IsUnbuilt × IsDue call NotBuilt × GainsNothing call.out
 StopsFor call (Faulted fault) = IsReachedQuery call × FaultIsDue call (Faulted fault)
 StopsFor call NoGraph = IsReachedQuery call × FaultIsDue call NoGraph
 StopsFor call Unwritten = IsSome call.command × Failed call.out × GainsDuePrefix call
@@ -240,14 +248,3 @@ HoldsText room told command =
 -- and its files are not told, no told room does
 abbrev pub HoldsLines : Option ℕ → Option Files → Option Command → Type 0
 HoldsLines room told command = ForSome room (λ r. (stop : Stop) → MayStop told command stop → length (line_of stop) ≤ r)
-
--- what is asked for over loaded graphs was done: its session was run, or it is not built
-abbrev pub WritesAsked : List PropertyGraph → Result PlacedFile Stop → Change → Result (Unit {0}) Stop → Type 0
-WritesAsked graphs (Ok query) out result = RunsSession (record { graphs = graphs; query = query }) out result
-WritesAsked graphs (Err stop) out (Err OutOfMemory) = GainsNothing out
-WritesAsked graphs (Err stop) out result = (result ≡ Err stop) × GainsNothing out
-
--- a told room holds the texts of what is asked for
-abbrev pub HoldsAsked : Option ℕ → List PropertyGraph → Result PlacedFile Stop → Type 0
-HoldsAsked room graphs (Ok query) = HoldsTexts room (record { graphs = graphs; query = query })
-HoldsAsked room graphs (Err stop) = ⊤

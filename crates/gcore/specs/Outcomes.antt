@@ -10,7 +10,6 @@ use Rattle.gc_json.specs.GraphFiles.{file_graph}
 use Rattle.gc_json.specs.declared.refusal.GraphRefusal.{GraphRefusal}
 use Rattle.gc_lower.specs.Namings.{scope_in}
 use Rattle.gc_ppg.specs.FreeIds.{first_free}
-use Rattle.gc_query.specs.Built.{is_built}
 use Rattle.gc_query.specs.Sessions.{Session, Begins}
 use Rattle.gc_query.specs.Standings.{Standing}
 use Rattle.gc_query.specs.declared.fault.Fault.{Fault}
@@ -58,21 +57,9 @@ graphs_due files seen [] = Ok []
 graphs_due files seen (pair ∷ pairs) =
     then_due (graph_due files seen pair.file) (λ g. then_due (graphs_due files (seen ++ shapes_of g ∷ []) pairs) (λ gs. Ok (g ∷ gs)))
 
--- what a query file asks for, where all of it is built
-abbrev pub asked_of : PlacedFile → Result PlacedFile Stop
-asked_of placed = if is_built placed.file then Ok placed else Err NotBuilt
-
--- what the bytes of a query file ask for, over graphs of these names
-abbrev pub query_of : List (List ℕ) → List ℕ → Result PlacedFile Stop
-query_of graphs bytes = then_due (query_file_of graphs bytes) asked_of
-
--- a query file that is read
+-- a query file, over graphs of these names
 abbrev pub query_file_due : List (List ℕ) → Files → List ℕ → Result PlacedFile Stop
 query_file_due graphs files name = then_due (file_due files name query_limit) (query_file_of graphs)
-
--- what a query file asks for
-abbrev pub query_due : List (List ℕ) → Files → List ℕ → Result PlacedFile Stop
-query_due graphs files name = then_due (file_due files name query_limit) (query_of graphs)
 
 -- the names of graph files, in the order of the words
 abbrev pub graph_names : List Pair → List (List ℕ)
@@ -113,7 +100,7 @@ texts graphs = flat_map printed graphs
 -- first the graph files, then the query file
 abbrev pub run_due : Files → List ℕ → List Pair → Result Request Stop
 run_due files query pairs =
-    then_due (graphs_due files [] pairs) (λ gs. then_due (query_due (graph_names pairs) files query) (request gs))
+    then_due (graphs_due files [] pairs) (λ gs. then_due (query_file_due (graph_names pairs) files query) (request gs))
 
 -- what a command is asked; those that are not built yet stop directly
 abbrev pub command_due : Files → Command → Result Request Stop

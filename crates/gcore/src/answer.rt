@@ -1,9 +1,7 @@
 ghost use Rattle.std.specs.Prelude.{◌≡◌, true, Some};
-ghost use Rattle.gcore.specs.Outcomes.{asked_of, free_above};
 ghost use Rattle.gcore.specs.Pairs.{are_graphs};
 ghost use Rattle.gcore.specs.CommandLines.{HasGraphs};
-ghost use Rattle.gcore.specs.Endings.{Answers, Call, Change, HoldsAsked, HoldsText, WritesAsked};
-ghost use Rattle.gcore.specs.QueryFiles.{placed};
+ghost use Rattle.gcore.specs.Endings.{Answers, Call, Change, HoldsText};
 ghost use Rattle.gcore.specs.declared.command.Command.TheVariants.{Run};
 
 use crate::command::Command;
@@ -13,10 +11,7 @@ use crate::pair::{Pair, names_of};
 use crate::session::run_session;
 use crate::stop::Stop;
 use gc_base::{Steps, Str};
-use gc_catalog::Catalog;
 use gc_io::{Folder, Sink};
-use gc_query::is_built;
-use gc_sorts::Checked;
 use std::alloc::Global;
 use std::mem::ManuallyDrop;
 use std::sync::ledger::Ledger;
@@ -94,28 +89,8 @@ fn run_query<F: Folder, S: Sink, L: Ledger>(
     let mut catalog = read_graphs(alloc, folder, pairs)?;
     let names = names_of(alloc, pairs)?;
     let checked = read_query(alloc, folder, query, &names)?;
-    let written = write_answer(alloc, &checked, &mut catalog, out, steps);
+    let written = run_session(alloc, &checked, &mut catalog, out, steps);
     // The program ends with the answer, and the system takes the memory of the graphs back whole.
     let _kept = ManuallyDrop::new(catalog);
     written
-}
-
-// Runs what a query file asks for over loaded graphs, if all of it is built.
-fn write_answer<S: Sink, L: Ledger>(
-    alloc: Global,
-    checked: &Checked,
-    catalog: &mut Catalog,
-    out: &mut S,
-    steps: &mut Steps<L>,
-) -> Result<(), Stop>
-    requires begins { catalog.old.next ≡ free_above catalog.old.graphs }
-    requires room { HoldsAsked (S.room out.old) catalog.old.graphs (asked_of (placed checked.now)) }
-    ensures { WritesAsked catalog.old.graphs (asked_of (placed checked.now))
-        (record { faults_before = S.faults out.old; faults_after = S.faults out.new; taken_before = S.taken out.old; taken_after = S.taken out.new }) result }
-{
-    if is_built(alloc, checked)? {
-        run_session(alloc, checked, catalog, out, steps)
-    } else {
-        Err(Stop::NotBuilt)
-    }
 }

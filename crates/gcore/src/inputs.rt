@@ -1,6 +1,8 @@
 ghost use Rattle.std.specs.Prelude.{◌≡◌, ◌≤◌, true, IfOk};
 ghost use Rattle.gc_json.specs.GraphFiles.{file_graph};
+ghost use Rattle.gc_lower.specs.Namings.{file_of};
 ghost use Rattle.gc_ppg.specs.Shapes.{graph_agrees};
+ghost use Rattle.gc_query.specs.Built.{is_built};
 ghost use Rattle.gcore.specs.Outcomes.{accepted, file_due, graph_due, query_file_due};
 ghost use Rattle.gcore.specs.Steps.{Accepts, Reads, ReadsGraph, ReadsQuery, Reading};
 
@@ -48,7 +50,7 @@ fn load_named(alloc: Global, bytes: &[u8], name: &Str, seen: &Coherence) -> Resu
     }
 }
 
-/// A query file over graphs of these names.
+/// A query file over graphs of these names. Each expression by which it looks for walks has an automaton.
 pub fn read_query<F: Folder>(
     alloc: Global,
     folder: &mut F,
@@ -57,6 +59,7 @@ pub fn read_query<F: Folder>(
 ) -> Result<Checked, Stop>
     ensures outcome { ReadsQuery (record { files = F.files folder.old; faults_before = F.faults folder.old; faults_after = F.faults folder.new })
         name.now (λ files. query_file_due graphs.now files name.now) result }
+    ensures built { IfOk result (λ checked. is_built (file_of checked) ≡ true) }
     ensures later { F.faults folder.old ≤ F.faults folder.new }
     ensures kept { F.files folder.new ≡ F.files folder.old }
 {

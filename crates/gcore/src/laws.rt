@@ -1,6 +1,7 @@
-ghost use Rattle.std.specs.Prelude.{◌≡◌, ℕ, List, slice_get, Some, None, Ok, Err};
+ghost use Rattle.std.specs.Prelude.{◌≡◌, ℕ, List, slice_get, true, Some, None, Ok, Err};
 ghost use Rattle.gc_base.specs.declared.place.Place.{Place};
 ghost use Rattle.gc_lex.specs.Lexis.{TokenList, lexed};
+ghost use Rattle.gc_lex.specs.declared.token.Token.{Token};
 ghost use Rattle.gc_ast.specs.Trees.{Tree, AStatement, row};
 ghost use Rattle.gc_grammar.specs.Queries.{SpellsFile};
 ghost use Rattle.gc_parse.specs.Depths.{IsDepthFault};
@@ -9,8 +10,9 @@ ghost use Rattle.gc_sorts.specs.declared.breach.Breach.{Breach};
 ghost use Rattle.gc_sorts.specs.declared.breach.SortRule.{SortRule};
 ghost use Rattle.gc_sorts.specs.SortRules.{first_breach};
 ghost use Rattle.gc_parse_source.specs.Sources.{names_among};
-ghost use Rattle.gcore.specs.Outcomes.{asked_of, query_of};
-ghost use Rattle.gcore.specs.QueryFiles.{breach_place, file_over};
+ghost use Rattle.gc_query.specs.Built.{is_built};
+ghost use Rattle.gc_query.specs.Expressions.{EachHasParts};
+ghost use Rattle.gcore.specs.QueryFiles.{PlacedFile, breach_place, file_over, query_file_of};
 ghost use Rattle.gcore.specs.declared.stop.Stop.TheVariants.{Sorts, Text};
 ghost use Rattle.gcore.specs.declared.text_refusal.TextRefusal.TheVariants.{TooDeep, Syntax};
 
@@ -20,17 +22,24 @@ ghost use Rattle.gcore.specs.declared.text_refusal.TextRefusal.TheVariants.{TooD
 /// tokens spells a file.
 pub fn a_query_file_asks_what_its_tokens_spell()
     ensures spelled { (graphs : List (List ℕ)) (text : List ℕ) (list : TokenList) (statements : List (Tree AStatement)) → lexed text ≡ Ok list
-        → IsDepthFault list.tokens None → SpellsFile list.tokens statements → first_breach graphs (row statements) ≡ None → query_of graphs text
-        ≡ asked_of (record { file = file_over graphs (names_among list.tokens) statements; places = list.places }) }
+        → IsDepthFault list.tokens None → SpellsFile list.tokens statements → first_breach graphs (row statements) ≡ None → query_file_of graphs text
+        ≡ Ok (record { file = file_over graphs (names_among list.tokens) statements; places = list.places }) }
     ensures broken { (graphs : List (List ℕ)) (text : List ℕ) (list : TokenList) (statements : List (Tree AStatement)) (breach : Breach) → lexed text
         ≡ Ok list → IsDepthFault list.tokens None → SpellsFile list.tokens statements → first_breach graphs (row statements) ≡ Some breach
-        → query_of graphs text ≡ Err (Sorts breach.rule (breach_place list.places breach)) }
-    ensures told { (graphs : List (List ℕ)) (text : List ℕ) (rule : SortRule) (place : Place) → query_of graphs text ≡ Err (Sorts rule place) →
+        → query_file_of graphs text ≡ Err (Sorts breach.rule (breach_place list.places breach)) }
+    ensures told { (graphs : List (List ℕ)) (text : List ℕ) (rule : SortRule) (place : Place) → query_file_of graphs text ≡ Err (Sorts rule place) →
         (list : TokenList) × (statements : List (Tree AStatement)) × (breach : Breach) × (lexed text ≡ Ok list) × IsDepthFault list.tokens None
         × SpellsFile list.tokens statements × (first_breach graphs (row statements) ≡ Some breach) × (rule ≡ breach.rule) ×
         (place ≡ breach_place list.places breach) }
-    ensures deep { (graphs : List (List ℕ)) (text : List ℕ) (place : Place) → query_of graphs text ≡ Err (Text (TooDeep place)) → (list : TokenList) ×
+    ensures deep { (graphs : List (List ℕ)) (text : List ℕ) (place : Place) → query_file_of graphs text ≡ Err (Text (TooDeep place)) → (list : TokenList) ×
         (k : ℕ) × (lexed text ≡ Ok list) × (slice_get list.places k ≡ Some place) × IsDepthFault list.tokens (Some k) }
-    ensures refused { (graphs : List (List ℕ)) (text : List ℕ) (place : Place) → query_of graphs text ≡ Err (Text (Syntax place)) → (list : TokenList)
+    ensures refused { (graphs : List (List ℕ)) (text : List ℕ) (place : Place) → query_file_of graphs text ≡ Err (Text (Syntax place)) → (list : TokenList)
         × (k : ℕ) × (lexed text ≡ Ok list) × (slice_get list.places k ≡ Some place) × IsRefusedAt SpellsFile list.tokens k }
+{}
+
+/// No juxtaposition in a regular path expression of a file that tokens spell is of no parts. So a query
+/// file that is read is built: each expression by which it looks for walks has an automaton.
+pub fn a_query_file_that_is_read_is_built()
+    ensures parts { (ts : List Token) (statements : List (Tree AStatement)) → SpellsFile ts statements → EachHasParts (row statements) }
+    ensures built { (graphs : List (List ℕ)) (text : List ℕ) (query : PlacedFile) → query_file_of graphs text ≡ Ok query → is_built query.file ≡ true }
 {}

@@ -1,8 +1,8 @@
 use Rattle.std.proofs.Common.{◌≡◌, ℕ, List, Option, Ok, sym, subst}
 use Rattle.std.specs.Prelude.{IfSome}
 use Rattle.gc_base.specs.Files.{Files}
-use Rattle.gcore.specs.Endings.{Change, HoldsAsked, WritesAsked}
-use Rattle.gcore.specs.Outcomes.{asked_of, free_above, graph_names, query_file_due}
+use Rattle.gcore.specs.Endings.{Change}
+use Rattle.gcore.specs.Outcomes.{graph_names, query_file_due}
 use Rattle.gcore.specs.QueryFiles.{PlacedFile, placed}
 use Rattle.gcore.proofs.GraphsRead.{graphs_differ}
 use Rattle.gcore.proofs.RunLaws.{room_holds, written}
@@ -17,11 +17,11 @@ file_read : (told before : Option Files) (names graphs : List (List ℕ)) (query
 file_read told before names graphs query file kept same read =
     subst (λ ns. IfSome before (λ files. query_file_due ns files query ≡ Ok file)) same (subst (λ (t : Option Files). IfSome t (λ files. query_file_due names files query ≡ Ok file)) kept read)
 
-pub write_answer-written-requires-clause-begins : goal.write_answer-written-requires-clause-begins
-write_answer-written-requires-clause-begins g c = c.in_ok-catalog.ensures.outcome.3
+pub run_session-written-requires-clause-begins : goal.run_session-written-requires-clause-begins
+run_session-written-requires-clause-begins g c = c.in_ok-catalog.ensures.outcome.3
 
-pub write_answer-written-requires-clause-room : goal.write_answer-written-requires-clause-room
-write_answer-written-requires-clause-room g c =
+pub run_session-written-requires-clause-room : goal.run_session-written-requires-clause-room
+run_session-written-requires-clause-room g c =
     let told = g.F.Folder.files c.args.folder.now in
     let file = placed c.in_ok-checked.checked in
     let read = file_read (g.F.Folder.files c.read_graphs.new.folder) told c.in_ok-names.names (graph_names c.args.pairs.now) c.args.query.now file c.in_ok-catalog.ensures.kept c.in_ok-names.ensures c.in_ok-checked.ensures.outcome in
@@ -34,9 +34,9 @@ returns-clause-outcome g c =
     let read = file_read (g.F.Folder.files c.read_graphs.new.folder) told c.in_ok-names.names (graph_names c.args.pairs.now) c.args.query.now file c.in_ok-catalog.ensures.kept c.in_ok-names.ensures c.in_ok-checked.ensures.outcome in
     let out : Change = record {
       faults_before = g.S.Sink.faults c.args.out.now;
-      faults_after = g.S.Sink.faults c.write_answer-written.new.out;
+      faults_after = g.S.Sink.faults c.run_session-written.new.out;
       taken_before = g.S.Sink.taken c.args.out.now;
-      taken_after = g.S.Sink.taken c.write_answer-written.new.out;
+      taken_after = g.S.Sink.taken c.run_session-written.new.out;
     } in
     written c.args.query.now c.args.pairs.now told c.in_ok-catalog.catalog.graphs file (g.F.Folder.faults c.args.folder.now) (g.F.Folder.faults c.read_query.new.folder) out
-    c.in_ok-catalog.ensures.outcome.2 read c.write_answer-written.result c.write_answer-written.ensures
+    c.in_ok-catalog.ensures.outcome.2 read c.run_session-written.result c.run_session-written.ensures

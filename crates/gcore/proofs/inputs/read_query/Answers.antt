@@ -6,6 +6,7 @@ use Rattle.gcore.specs.QueryFiles.{IsFileOf, PlacedFile, placed, query_file_of}
 use Rattle.gcore.specs.Steps.{ReadsQuery}
 use Rattle.gcore.specs.declared.stop.Stop.{Stop}
 use Rattle.gcore.specs.declared.stop.Stop.TheVariants.{Usage, Unread, TooLarge, Refused, Text, Sorts, NotBuilt, Faulted, NoGraph, Unwritten, OutOfMemory}
+use Rattle.gcore.proofs.BuiltQueries.{file_is_built}
 use Rattle.gcore.proofs.inputs.read_query.Goals as goal
 
 -- a file that was read, and what is due of its bytes
@@ -34,3 +35,8 @@ pub returns-clause-outcome : goal.returns-clause-outcome
 returns-clause-outcome g c =
     read_file_of c.args.graphs.now (g.F.Folder.files c.args.folder.now) (g.F.Folder.faults c.args.folder.now) (g.F.Folder.faults c.read_file.new.folder) c.args.name.now c.in_ok-bytes.bytes c.query_file.result
     c.in_ok-bytes.ensures.outcome (subst (λ (bytes : List ℕ). IsFileOf (query_file_of c.args.graphs.now bytes) c.query_file.result) c.as_slice.ensures c.query_file.ensures)
+
+pub returns-clause-built : goal.returns-clause-built
+returns-clause-built g c =
+    file_is_built c.args.graphs.now c.in_ok-bytes.bytes c.query_file.result
+    (subst (λ (bytes : List ℕ). IsFileOf (query_file_of c.args.graphs.now bytes) c.query_file.result) c.as_slice.ensures c.query_file.ensures)

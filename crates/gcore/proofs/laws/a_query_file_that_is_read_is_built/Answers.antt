@@ -1,0 +1,9 @@
+use Rattle.gcore.proofs.BuiltQueries.{query_built}
+use Rattle.gcore.proofs.SpelledQueries.{spelled_parts}
+use Rattle.gcore.proofs.laws.a_query_file_that_is_read_is_built.Goals as goal
+
+pub returns-clause-parts : goal.returns-clause-parts
+returns-clause-parts c = spelled_parts
+
+pub returns-clause-built : goal.returns-clause-built
+returns-clause-built c = query_built
