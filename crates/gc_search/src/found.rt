@@ -24,9 +24,9 @@ impl Model for Found {
 
     ghost Value = { Finding };
 
-    ghost view = { λ f. record { source = f.source; last = f.last; walks = f.walks } };
+    ghost view = { λ f. record { source = f.source; last = f.last; walks = f.walks.walks } };
 
-    ghost invariant = { λ f. AreFew f.walks };
+    ghost invariant = { λ f. AreFew f.walks.walks };
 }
 
 impl Found {
