@@ -6,6 +6,7 @@ pub mod FirstLaws
 pub mod Flat
 pub mod HeapLaws
 pub mod LoopLaws
+pub mod NumberLaws
 pub mod Order
 pub mod PlaceLaws
 pub mod Settle

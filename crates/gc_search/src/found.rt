@@ -1,5 +1,5 @@
 ghost use Rattle.std.specs.Prelude.{◌≡◌, ◌<◌, length, slice_get, Some, IfOk};
-ghost use Rattle.std.specs.Option.{option_copied, option_map};
+ghost use Rattle.std.specs.Option.{option_map};
 ghost use Rattle.gc_prod.specs.Leading.{pair};
 ghost use Rattle.gc_search.specs.Arrivals.{arrivals_at};
 ghost use Rattle.gc_search.specs.Finding.{walks_to, runs_to, potential_of};
@@ -24,9 +24,9 @@ impl Model for Found {
 
     ghost Value = { Finding };
 
-    ghost view = { λ f. record { source = f.source; last = f.last; walks = f.walks } };
+    ghost view = { λ f. record { source = f.source; last = f.last; walks = f.walks.walks } };
 
-    ghost invariant = { λ f. AreFew f.walks };
+    ghost invariant = { λ f. AreFew f.walks.walks };
 }
 
 impl Found {
@@ -46,10 +46,7 @@ impl Found {
         requires { i < length (walks_to self.now target) }
         ensures { option_map (λ w. w.cost) (slice_get (walks_to self.now target) i) ≡ Some result }
     {
-        match self.arrival(target, i) {
-            None => Cost::of(0),
-            Some(arrival) => Cost::of(arrival.cost),
-        }
+        Cost::of(self.arrival(target, i).cost)
     }
 
     /// The i-th walk to a node, for a number below the count.
@@ -57,16 +54,12 @@ impl Found {
         requires { i < length (walks_to self.now target) }
         ensures { IfOk result (λ walk. option_map (λ w. w.walk) (slice_get (walks_to self.now target) i) ≡ Some walk) }
     {
-        match self.arrival(target, i) {
-            None => Err(Memory),
-            Some(arrival) => {
-                let steps = Vec::from_slice(*arrival.steps.allocator(), &arrival.steps)?;
-                Ok(Walk {
-                    start: self.source,
-                    steps: Sequence::from_vec(steps),
-                })
-            }
-        }
+        let arrival = self.arrival(target, i);
+        let steps = Vec::from_slice(*arrival.steps.allocator(), &arrival.steps)?;
+        Ok(Walk {
+            start: self.source,
+            steps: Sequence::from_vec(steps),
+        })
     }
 
     /// A run that passes the i-th walk to a node at its cost, for a number below the count.
@@ -74,13 +67,9 @@ impl Found {
         requires { i < length (walks_to self.now target) }
         ensures { IfOk result (λ run. slice_get (runs_to self.now target) i ≡ Some run) }
     {
-        match self.arrival(target, i) {
-            None => Err(Memory),
-            Some(arrival) => {
-                let run = Vec::from_slice(*arrival.run.allocator(), &arrival.run)?;
-                Ok(Sequence::from_vec(run))
-            }
-        }
+        let arrival = self.arrival(target, i);
+        let run = Vec::from_slice(*arrival.run.allocator(), &arrival.run)?;
+        Ok(Sequence::from_vec(run))
     }
 
     /// The least cost at which a run reaches a node and a state, or `None` exactly where none does.
@@ -94,14 +83,18 @@ impl Found {
         }
     }
 
-    // The i-th that arrives at a node in the last state.
-    fn arrival(&self, target: Id, i: u32) -> Option<&Arrival>
-        ensures { option_copied result ≡ slice_get (arrivals_at self.now.walks (pair target self.now.last)) i }
+    // The i-th that arrives at a node in the last state, for a number below how many do.
+    fn arrival(&self, target: Id, i: u32) -> &Arrival
+        requires { i < length (arrivals_at self.now.walks (pair target self.now.last)) }
+        ensures { slice_get (arrivals_at self.now.walks (pair target self.now.last)) i ≡ Some result.now }
     {
         let at = Pair {
             node: target,
             state: self.last,
         };
-        self.walks.get(&at, i as usize)
+        match self.walks.get(&at, i as usize) {
+            None => unreachable!(),
+            Some(arrival) => arrival,
+        }
     }
 }

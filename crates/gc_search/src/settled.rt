@@ -3,7 +3,7 @@ ghost use Rattle.std.specs.Option.{option_copied};
 ghost use Rattle.std.specs.Ordering.{nat_cmp};
 ghost use Rattle.gc_base.specs.Ascending.{Ascends};
 ghost use Rattle.gc_search.specs.Arrivals.{arrivals_at, IsNotLast, IsSeen, Told};
-ghost use Rattle.gc_search.specs.Places.{place_in, number_of, places_from};
+ghost use Rattle.gc_search.specs.Places.{place_in, number_of, places_from, IsNumbered};
 
 use crate::arrival::Arrival;
 use gc_base::{Id, Memory, Sequence};
@@ -12,7 +12,8 @@ use std::alloc::Global;
 use std::marker::Model;
 
 // The walks that are settled, in the order in which they were, and for each pair of a node and a state
-// the places of those that arrive at it. Contracts see the walks alone.
+// the places of those that arrive at it. Contracts see the nodes, the number above the states, and the
+// walks.
 #[derive(Drop)]
 pub(crate) struct Settled {
     nodes: Vec<Id>,
@@ -22,13 +23,11 @@ pub(crate) struct Settled {
 }
 
 impl Model for Settled {
-    ghost use Rattle.std.specs.Prelude.{List};
-    ghost use Rattle.gc_search.specs.Arrivals.{FoundWalk};
-    ghost use Rattle.gc_search.specs.Places.{IsListed};
+    ghost use Rattle.gc_search.specs.Places.{Listing, IsListed};
 
-    ghost Value = { List FoundWalk };
+    ghost Value = { Listing };
 
-    ghost view = { λ s. s.walks.items };
+    ghost view = { λ s. record { nodes = s.nodes.items; width = s.width; walks = s.walks.items } };
 
     ghost invariant = { λ s. IsListed s.nodes.items s.width s.walks.items s.places.items };
 }
@@ -37,7 +36,7 @@ impl Settled {
     // No walk is settled. There is a list for each of these nodes and each state below a number.
     pub(crate) fn of(alloc: Global, nodes: &[Id], width: usize) -> Result<Settled, Memory>
         requires { Ascends nat_cmp nodes.now }
-        ensures { IfOk result (λ s. s ≡ []) }
+        ensures { IfOk result (λ s. s ≡ record { nodes = nodes.now; width = width; walks = [] }) }
     {
         let Some(size) = nodes.len().checked_mul(width) else {
             return Err(Memory);
@@ -54,7 +53,7 @@ impl Settled {
 
     // Whether the edges of a walk are those of one that is settled at its pair.
     pub(crate) fn is_seen(&self, next: &Arrival) -> bool
-        ensures { Told result (IsSeen self.now next.now) (IsSeen self.now next.now → ⊥) }
+        ensures { Told result (IsSeen self.now.walks next.now) (IsSeen self.now.walks next.now → ⊥) }
     {
         let places = self.places_at(&next.at);
         for i in 0..places.len() {
@@ -67,7 +66,7 @@ impl Settled {
 
     // Whether the edges of a walk are those of the last one that is settled at its pair.
     pub(crate) fn is_last(&self, next: &Arrival) -> bool
-        ensures { Told result (IsSeen self.now next.now) (IsNotLast self.now next.now) }
+        ensures { Told result (IsSeen self.now.walks next.now) (IsNotLast self.now.walks next.now) }
     {
         let places = self.places_at(&next.at);
         if places.len() == 0 {
@@ -78,8 +77,8 @@ impl Settled {
 
     // How many are settled at a pair.
     pub(crate) fn count_at(&self, at: &Pair) -> usize
-        ensures exact { result ≡ length (arrivals_at self.now at.now) }
-        ensures few { length self.now < 2 ^ 63 }
+        ensures exact { result ≡ length (arrivals_at self.now.walks at.now) }
+        ensures few { length self.now.walks < 2 ^ 63 }
     {
         let _few = self.walks.len();
         self.places_at(at).len()
@@ -87,7 +86,7 @@ impl Settled {
 
     // The i-th of those that are settled at a pair.
     pub(crate) fn get(&self, at: &Pair, i: usize) -> Option<&Arrival>
-        ensures { option_copied result ≡ slice_get (arrivals_at self.now at.now) i }
+        ensures { option_copied result ≡ slice_get (arrivals_at self.now.walks at.now) i }
     {
         match self.places_at(at).get(i) {
             None => None,
@@ -95,12 +94,13 @@ impl Settled {
         }
     }
 
-    // Settles a walk behind the others.
+    // Settles a walk behind the others. Its pair has a number.
     pub(crate) fn push(&mut self, next: Arrival) -> Result<(), Memory>
-        ensures { OnOk result (self.new ≡ self.old ++ next ∷ []) }
+        requires { IsNumbered self.old.nodes self.old.width next.at }
+        ensures { OnOk result (self.new ≡ record self.old { walks = self.old.walks ++ next ∷ [] }) }
     {
         let Some(number) = number_of(&self.nodes, self.width, &next.at) else {
-            return Err(Memory);
+            unreachable!()
         };
         let place = self.walks.len();
         self.walks.push(next)?;
@@ -115,7 +115,7 @@ impl Settled {
 
     // The places of those that are settled at a pair.
     fn places_at(&self, at: &Pair) -> &[usize]
-        ensures { result.now ≡ places_from 0 self.now at.now }
+        ensures { result.now ≡ places_from 0 self.now.walks at.now }
     {
         match number_of(&self.nodes, self.width, at) {
             None => &[],

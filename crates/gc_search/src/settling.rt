@@ -1,5 +1,6 @@
 ghost use Rattle.std.specs.Prelude.{◌≡◌, ◌+◌, ◌*◌, ◌<◌, ◌≤◌, ◌^◌, ◌++◌, ◌∷◌, [], length, true, IfOk, OnOk};
 ghost use Rattle.std.specs.List.{AllByRecursion};
+ghost use Rattle.gc_automata.specs.Moves.{IsThere};
 ghost use Rattle.gc_prod.specs.declared.moves.Pair.{Pair};
 ghost use Rattle.gc_prod.specs.Leading.{pair};
 ghost use Rattle.gc_prod.specs.Products.{moves, moves_by};
@@ -27,7 +28,7 @@ fn add_extension(
     more: &mut Vec<Arrival>,
 ) -> Result<(), Memory>
     requires { last.now.cost + 2 ^ 64 ≤ 2 ^ 128 }
-    ensures exact { OnOk result (more.new.items ≡ more.old.items ++ extensions p.now last.now (open_moves settled.now k (by ∷ []))) }
+    ensures exact { OnOk result (more.new.items ≡ more.old.items ++ extensions p.now last.now (open_moves settled.now.walks k (by ∷ []))) }
     ensures small { by.cost < 2 ^ 64 }
 {
     let to = Pair {
@@ -53,7 +54,7 @@ fn add_extensions(
 ) -> Result<(), Memory>
     requires room { last.now.cost + 2 ^ 64 ≤ 2 ^ 128 }
     requires small { AllByRecursion (λ a. a.cost ≤ last.now.cost + 2 ^ 64) more.old.items }
-    ensures exact { OnOk result (more.new.items ≡ more.old.items ++ extensions p.now last.now (open_moves settled.now k (moves_by bundle.now))) }
+    ensures exact { OnOk result (more.new.items ≡ more.old.items ++ extensions p.now last.now (open_moves settled.now.walks k (moves_by bundle.now))) }
     ensures small { OnOk result (AllByRecursion (λ a. a.cost ≤ last.now.cost + 2 ^ 64) more.new.items) }
 {
     for i in 0..bundle.hops.len() {
@@ -80,7 +81,7 @@ fn all_extended<L: Ledger>(
 ) -> Result<Vec<Arrival>, Memory>
     requires { last.now.cost + 2 ^ 64 ≤ 2 ^ 128 }
     ensures exact { IfOk result (λ more. more.items
-        ≡ extensions p.now last.now (open_moves settled.now k (moves p.now last.now.at.node last.now.at.state))) }
+        ≡ extensions p.now last.now (open_moves settled.now.walks k (moves p.now last.now.at.node last.now.at.state))) }
     ensures small { IfOk result (λ more. AllByRecursion (λ a. a.cost ≤ last.now.cost + 2 ^ 64) more.items) }
     ensures few { steps.new ≤ steps.old + degree p.now last.now }
 {
@@ -95,7 +96,7 @@ fn all_extended<L: Ledger>(
 // Whether the edges of a walk are those of one that is settled at its pair. Where the edges tell the cost
 // of a walk, that can only be the last one.
 fn is_known(settled: &Settled, next: &Arrival, plain: bool) -> bool
-    ensures { Told result (IsSeen settled.now next.now) (IsUnknown plain settled.now next.now) }
+    ensures { Told result (IsSeen settled.now.walks next.now) (IsUnknown plain settled.now.walks next.now) }
 {
     if plain {
         settled.is_last(next)
@@ -106,15 +107,15 @@ fn is_known(settled: &Settled, next: &Arrival, plain: bool) -> bool
 
 // Whether a walk is to be settled: fewer than k are at its pair, and none with its edges.
 fn is_new(settled: &Settled, next: &Arrival, k: u32, plain: bool) -> bool
-    ensures told { Told result (IsFree plain settled.now k next.now) (IsOld settled.now k next.now) }
-    ensures few { length settled.now < 2 ^ 63 }
+    ensures told { Told result (IsFree plain settled.now.walks k next.now) (IsOld settled.now.walks k next.now) }
+    ensures few { length settled.now.walks < 2 ^ 63 }
 {
     settled.count_at(&next.at) < k as usize && !is_known(settled, next, plain)
 }
 
 // Whether k walks are settled at the pair that is asked for, where one is.
 fn is_done(settled: &Settled, target: Option<Pair>, k: u32) -> bool
-    ensures { result ≡ true → IsDone target settled.now k }
+    ensures { result ≡ true → IsDone target settled.now.walks k }
 {
     match target {
         None => false,
@@ -134,12 +135,13 @@ pub(crate) fn settle<L: Ledger>(
     plain: bool,
     steps: &mut Steps<L>,
 ) -> Result<Settled, Memory>
+    requires source { IsThere p.now.network source }
     requires costs { (q : Pair) (m : Passage Pair) → Has (passages p.now q) m → IsOnward (λ r. r.node) q m }
     requires plain { plain ≡ true → (q : Pair) (m : Passage Pair) → Has (passages p.now q) m → IsCounted m }
     ensures first { IfOk result (λ settled. (q : Pair) → IsAsked target q
-        → IsFirstK k (Reach (passages p.now) (pair source 0) q) (settled_at settled q)) }
-    ensures followed { IfOk result (λ settled. AllByRecursion (IsFollowed p.now source) settled) }
-    ensures small { IfOk result (λ settled. (q : Pair) → length (settled_at settled q) ≤ k) }
+        → IsFirstK k (Reach (passages p.now) (pair source 0) q) (settled_at settled.walks q)) }
+    ensures followed { IfOk result (λ settled. AllByRecursion (IsFollowed p.now source) settled.walks) }
+    ensures small { IfOk result (λ settled. (q : Pair) → length (settled_at settled.walks q) ≤ k) }
     ensures few { steps.new ≤ steps.old + k * most_moves p.now }
 {
     let mut settled = Settled::of(alloc, p.nodes(), p.width())?;

@@ -12,6 +12,7 @@ use Rattle.gc_search.proofs.searching.search.Goals as goal
 
 pub settle-requires : goal.settle-requires
 settle-requires g c = record {
+  source = c.requires.source;
   costs = passage_onward c.args.p.now c.requires.segments;
   plain = λ plain. passage_counted c.args.p.now (c.is_plain.ensures plain);
 }
@@ -20,7 +21,7 @@ pub returns-clause-runs : goal.returns-clause-runs
 returns-clause-runs g c = λ target.
     let p = c.args.p.now in
     let source = c.args.source in
-    let walks = c.in_ok-walks.walks in
+    let walks = c.in_ok-walks.walks.walks in
     let last = c.saturating_sub-last.result in
     let is_last : last ≡ p.machine.states - 1 = c.saturating_sub-last.ensures ∙ ap (λ n. n - 1) c.states.ensures in
     subst (λ n. AreFirst (IsRunTo p n) source target c.args.k (map (costed source) (arrivals_at walks (pair target last)))) is_last
@@ -32,7 +33,7 @@ returns-clause-conform g c = λ tree parts is target.
     let p = c.args.p.now in
     let source = c.args.source in
     let law = c.nodes-nodes.ensures.network in
-    let walks = c.in_ok-walks.walks in
+    let walks = c.in_ok-walks.walks.walks in
     let last = c.saturating_sub-last.result in
     let laws = c.runs_pass_the_conforming_walks.ensures in
     let is_last : last ≡ p.machine.states - 1 = c.saturating_sub-last.ensures ∙ ap (λ n. n - 1) c.states.ensures in
@@ -44,10 +45,10 @@ returns-clause-conform g c = λ tree parts is target.
 
 pub returns-clause-potentials : goal.returns-clause-potentials
 returns-clause-potentials g c = λ q.
-    potential_is c.args.p.now c.nodes-nodes.ensures.graph c.requires.segments c.nodes-nodes.ensures.network c.args.source c.requires.source c.args.k c.requires.some c.in_ok-walks.walks q
+    potential_is c.args.p.now c.nodes-nodes.ensures.graph c.requires.segments c.nodes-nodes.ensures.network c.args.source c.requires.source c.args.k c.requires.some c.in_ok-walks.walks.walks q
     (c.in_ok-walks.ensures.first q tt)
 
 pub invariant_of-result : goal.invariant_of-result
 invariant_of-result g c = λ q.
-    let walks = c.in_ok-walks.walks in
+    let walks = c.in_ok-walks.walks.walks in
     omega (arith, c.in_ok-walks.ensures.small q, length-map (arrivals_at walks q) entry_of, c.ranges.k.fits)

@@ -12,13 +12,13 @@ returns-in_err-add_extensions-clause-few g c =
     let j = c.loop-j.j in
     let b = c.bundle-bundle.result in
     let at = subst (λ (a : FoundWalk). slice_get (bundles p a.at.node a.at.state) j ≡ Some b) c.last.view_is c.bundle-bundle.ensures.exact in
-    omega (arith, c.loop-j.invariant.few, c.bundle-bundle.ensures.step, moves_left p c.args.settled.now c.args.k last (bundles p last.at.node last.at.state) j b at)
+    omega (arith, c.loop-j.invariant.few, c.bundle-bundle.ensures.step, moves_left p c.args.settled.now.walks c.args.k last (bundles p last.at.node last.at.state) j b at)
 
 pub loop-j-preserved : goal.loop-j-preserved
 loop-j-preserved g c =
     let p = c.args.p.now in
     let last = c.args.last.now in
-    let settled = c.args.settled.now in
+    let settled = c.args.settled.now.walks in
     let k = c.args.k in
     let j = c.loop-j.j in
     let bs = bundles p last.at.node last.at.state in

@@ -6,8 +6,8 @@ use Rattle.gc_search.proofs.settling.all_extended.Given as goal
 
 abbrev pub invariant-loop-j : goal.invariant-loop-j
 invariant-loop-j g l = record {
-  exact : l.more.items ++ grown l.p l.settled l.k l.last (moves_from (bundles l.p l.last.at.node l.last.at.state) l.j)
-      ≡ grown l.p l.settled l.k l.last (moves l.p l.last.at.node l.last.at.state);
+  exact : l.more.items ++ grown l.p l.settled.walks l.k l.last (moves_from (bundles l.p l.last.at.node l.last.at.state) l.j)
+      ≡ grown l.p l.settled.walks l.k l.last (moves l.p l.last.at.node l.last.at.state);
   small : AllByRecursion (λ a. a.cost ≤ l.last.cost + 2 ^ 64) l.more.items;
   few : l.steps + length (moves_from (bundles l.p l.last.at.node l.last.at.state) l.j) ≤ l.initial.steps + length (moves l.p l.last.at.node l.last.at.state);
 }

@@ -4,4 +4,4 @@ use Rattle.gc_search.proofs.LoopLaws.{HasEdges}
 use Rattle.gc_search.proofs.settled.Settled.is_seen.Given as goal
 
 abbrev pub invariant-loop-i : goal.invariant-loop-i
-invariant-loop-i l = IsSeen l.self l.next → HasEdges (drop l.i (arrivals_at l.self l.next.at)) l.next
+invariant-loop-i l = IsSeen l.self.walks l.next → HasEdges (drop l.i (arrivals_at l.self.walks l.next.at)) l.next

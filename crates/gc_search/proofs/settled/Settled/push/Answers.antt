@@ -1,9 +1,21 @@
-use Rattle.std.proofs.Common.{◌≡◌, ◌*◌, ◌<◌, ◌++◌, ◌∷◌, [], List, ℕ, length, get_or, set, Some, sym, ap, subst, arith, ◌∙◌}
+use Rattle.std.proofs.Common.{◌≡◌, ◌*◌, ◌<◌, ◌++◌, ◌∷◌, [], List, ℕ, length, get_or, set, Some, None, sym, ap, subst, arith, ◌∙◌}
 use Rattle.std.proofs.lemmas.List.{get_or_read}
 use Rattle.gc_search.specs.Arrivals.{FoundWalk}
-use Rattle.gc_search.specs.Places.{number_of, IsListed}
+use Rattle.gc_search.specs.Places.{number_of, Listing, IsListed, IsNumbered}
+use Rattle.gc_search.proofs.NumberLaws.{has_number}
 use Rattle.gc_search.proofs.PlaceLaws.{listed_more}
 use Rattle.gc_search.proofs.settled.Settled.push.Goals as goal
+
+pub unreachable-requires : goal.unreachable-requires
+unreachable-requires c =
+    let nodes = c.self.inside.nodes.items in
+    let width = c.self.inside.width in
+    let next = c.args.next in
+    let is : IsNumbered nodes width next.at = subst (λ (s : Listing). IsNumbered s.nodes s.width next.at) (sym c.self.view_is) c.requires in
+    let none : None ≡ number_of nodes width next.at =
+    sym c.in_default.is
+    ∙ (c.number_of.ensures.exact ∙ (ap (λ (l : List ℕ). number_of l width c.next.inside.at) c.deref.ensures.value ∙ ap (λ (a : FoundWalk). number_of nodes width a.at) c.next.view_is)) in
+    has_number nodes width next.at is (sym none)
 
 pub invariant_of-self-in-Ok : goal.invariant_of-self-in-Ok
 invariant_of-self-in-Ok c =
