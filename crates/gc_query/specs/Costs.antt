@@ -12,7 +12,7 @@ use Rattle.gc_rows.specs.declared.row.Binding.{Binding}
 use Rattle.gc_query.specs.declared.costs.CostAt.{CostAt}
 use Rattle.gc_query.specs.declared.costs.PastAt.{PastAt}
 
--- Take `MATCH (n)-/p<~w ~w> COST c/->(m)`: where c is past the greatest number on the rows 2 and 5, the fault is at c, on row 2.
+-- Take `MATCH (n)-/p<~w ~w> COST c/->(m)`: where c is past the greatest number in two rows, the fault is at c, in the first of them.
 
 -- a variable behind COST, and its token
 abbrev pub cost_at : Scope → Named → CostAt
