@@ -1,0 +1,4 @@
+pub mod ExplainedPlans
+pub mod ExplainedWords
+pub mod Needs
+pub mod PlanLines
