@@ -6,11 +6,13 @@
 mod by_variable;
 mod chain;
 mod change;
+mod grouped;
 mod recipe;
 mod variable;
 
 pub use by_variable::{ByVariable, OfVariable};
 pub use chain::{Chain, ChainList};
 pub use change::{Assignment, AssignmentList, LabelOf, LabelOfList, PropertyOf, PropertyOfList};
+pub use grouped::Grouped;
 pub use recipe::{GraphNumbers, Recipe};
 pub use variable::{Grouping, Term, TermList, Variable, VariableList};
