@@ -1,9 +1,8 @@
-use Rattle.std.proofs.Common.{◌≡◌, drop, is_some}
-use Rattle.std.specs.List.{list_all}
-use Rattle.gc_build.specs.Makings.{identity_at}
-use Rattle.gc_build.proofs.instances.has_places.Given as goal
+use Rattle.std.proofs.Common.{◌≡◌, drop, map}
+use Rattle.std.specs.Option.{option_copied}
+use Rattle.gc_build.specs.Makers.{has_all}
+use Rattle.gc_build.proofs.instances.has_all.Given as goal
 
--- each of those so far has an identity
-abbrev pub invariant-loop-var : goal.invariant-loop-var
-invariant-loop-var l =
-    list_all (λ x. is_some (identity_at l.making x l.place)) (drop l.var-index l.places) ≡ list_all (λ x. is_some (identity_at l.making x l.place)) l.places
+-- the row makes an element of each of those so far
+abbrev pub invariant-loop-maker : goal.invariant-loop-maker
+invariant-loop-maker l = has_all l.place (map option_copied (drop l.maker-index l.makers)) ≡ has_all l.place (map option_copied l.makers)
