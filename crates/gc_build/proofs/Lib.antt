@@ -1,8 +1,13 @@
 pub mod Atoms
 pub mod Distinct
 pub mod Filters
+pub mod InstanceLaws
 pub mod Members
+pub mod NameLists
+pub mod NamedLaws
 pub mod OneClaims
 pub mod Outcomes
 pub mod Passing
+pub mod SameMade
 pub mod Searchable
+pub mod StandingLaws

@@ -2,7 +2,10 @@ pub mod AllPaths
 pub mod Claimed
 pub mod Constructed
 pub mod Kept
+pub mod Makers
 pub mod Makings
+pub mod Names
 pub mod Passed
 pub mod Patterns
+pub mod Standing
 pub mod Walks

@@ -11,6 +11,7 @@ use crate::graphs::{Part, add_graphs, add_walks};
 use crate::kept::{Kept, kept_instances};
 use crate::making::Making;
 use crate::patterns::Patterns;
+use crate::standing::{Instances, places_of};
 use crate::walks::OnWalk;
 use gc_base::{Memory, Steps, Sym};
 use gc_build_recipe::{Chain, Variable};
@@ -35,15 +36,17 @@ pub(crate) fn claims<L: Ledger>(
 {
     let kept = kept_instances(making, chains, steps)?;
     let setting = making.setting;
-    let paths = walked(setting.alloc, &kept, making.variables)?;
+    let paths = walked(setting.alloc, &kept, making.variables.as_slice())?;
     let parts = all_parts(making, patterns, &kept, &paths, steps)?;
-    claims_with(making, &kept, &parts, graphs, steps)
+    let found = places_of(setting.alloc, &kept)?;
+    let instances = Instances::of(setting.alloc, &kept, &found)?;
+    claims_with(making, &instances, &parts, graphs, steps)
 }
 
 // The same for chains whose instances are known, where so much lies on the walks of ALL paths.
 fn claims_with<L: Ledger>(
     making: &Making<'_>,
-    kept: &[Kept<'_>],
+    kept: &Instances<'_>,
     parts: &[AllParts],
     graphs: &[u32],
     steps: &mut Steps<L>,
@@ -60,7 +63,7 @@ fn claims_with<L: Ledger>(
 // The nodes, or the edges: those of kept instances, those on their walks, and those of graphs.
 fn all_claimed<T: Claim + Part + OnWalk + Drop, L: Ledger>(
     making: &Making<'_>,
-    kept: &[Kept<'_>],
+    kept: &Instances<'_>,
     parts: &[AllParts],
     graphs: &[u32],
     steps: &mut Steps<L>,
@@ -71,7 +74,7 @@ fn all_claimed<T: Claim + Part + OnWalk + Drop, L: Ledger>(
         ++ in_items making.now.setting.graphs graphs.now T.all) }
 {
     let mut claimed = claimed_by(making, kept, steps)?;
-    add_all_walks(&mut claimed, making, kept, parts, steps)?;
+    add_all_walks(&mut claimed, making, kept.all, parts, steps)?;
     add_graphs(&mut claimed, making, graphs, steps)?;
     Ok(claimed)
 }
@@ -79,7 +82,7 @@ fn all_claimed<T: Claim + Part + OnWalk + Drop, L: Ledger>(
 // The stored paths: those of kept instances, and those of graphs.
 fn paths_claimed<T: Claim + Part + Drop, L: Ledger>(
     making: &Making<'_>,
-    kept: &[Kept<'_>],
+    kept: &Instances<'_>,
     graphs: &[u32],
     steps: &mut Steps<L>,
 ) -> Result<Vec<T>, Memory>
@@ -94,13 +97,13 @@ fn paths_claimed<T: Claim + Part + Drop, L: Ledger>(
 // What is claimed for the elements of all variables of one kind.
 fn claimed_by<T: Claim + Drop, L: Ledger>(
     making: &Making<'_>,
-    kept: &[Kept<'_>],
+    kept: &Instances<'_>,
     steps: &mut Steps<L>,
 ) -> Result<Vec<T>, Memory>
     ensures { IfOk result (λ claimed. claimed.items ≡ flat_map (claims_for making.now kept.now T.kind (T.claims making.now)) making.now.variables) }
 {
     let setting = making.setting;
-    let variables = making.variables;
+    let variables = making.variables.as_slice();
     let mut claimed = Vec::new(setting.alloc);
     for variable in variables {
         claim_for(&mut claimed, making, kept, variable, steps)?;

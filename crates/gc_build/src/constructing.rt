@@ -105,9 +105,9 @@ fn claimed<L: Ledger>(
 {
     let making = Making {
         setting,
-        variables: recipe.variables.as_slice(),
-        numbered: numbering.variables.as_slice(),
-        described: described.as_slice(),
+        variables: &recipe.variables,
+        numbered: &numbering.variables,
+        described,
         next,
     };
     claims(

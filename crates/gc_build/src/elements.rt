@@ -7,8 +7,8 @@ ghost use Rattle.gc_build_recipe.specs.declared.variable.Variable.{Variable as V
 ghost use Rattle.gc_values.specs.Descriptions.{Description as DescriptionSeen};
 ghost use Rattle.gc_ppg.specs.declared.shape.Kind.{Kind as KindSeen};
 
-use crate::kept::{Kept, is_claimed};
 use crate::making::Making;
+use crate::standing::{Instances, is_claimed};
 use gc_base::{Memory, Steps};
 use gc_build_descriptions::Description;
 use gc_build_numbers::Element;
@@ -53,7 +53,7 @@ pub(crate) trait Claim {
 pub(crate) fn claim_for<T: Claim + Drop, L: Ledger>(
     claimed: &mut Vec<T>,
     making: &Making<'_>,
-    kept: &[Kept<'_>],
+    kept: &Instances<'_>,
     variable: &Variable,
     steps: &mut Steps<L>,
 ) -> Result<(), Memory>
@@ -69,7 +69,7 @@ pub(crate) fn claim_for<T: Claim + Drop, L: Ledger>(
 fn claim_all<T: Claim + Drop, L: Ledger>(
     claimed: &mut Vec<T>,
     making: &Making<'_>,
-    kept: &[Kept<'_>],
+    kept: &Instances<'_>,
     variable: &Variable,
     steps: &mut Steps<L>,
 ) -> Result<(), Memory>
@@ -77,13 +77,14 @@ fn claim_all<T: Claim + Drop, L: Ledger>(
         ++ claims_of kept.now variable.now.var (T.claims making.now variable.now) (elements_of making.now.numbered variable.now.var) (descriptions_of making.now.described variable.now.var)) }
 {
     let elements = making.elements(variable.var);
+    let own = kept.of_variable(variable.var);
     let mut descriptions = making.descriptions(variable.var);
     for element in elements {
         let Some((description, rest)) = descriptions.split_first() else {
             return Ok(());
         };
         descriptions = rest;
-        if is_claimed(kept, variable.var, element) {
+        if is_claimed(kept, variable.var, own, element) {
             T::claim(claimed, making, variable, element, description, steps)?;
         }
     }

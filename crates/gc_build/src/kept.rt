@@ -1,13 +1,16 @@
 ghost use Rattle.std.specs.Prelude.{◌≡◌, ◌&&◌, ◌||◌, IfOk, map};
-ghost use Rattle.gc_build.specs.Kept.{has_instance, is_claimed, is_kept, kept_from, kept_of};
+ghost use Rattle.std.specs.Option.{option_copied};
+ghost use Rattle.gc_build.specs.Kept.{is_kept, kept_from, kept_of};
+ghost use Rattle.gc_build.specs.Makers.{maker_of};
+ghost use Rattle.gc_build.specs.Names.{named_by};
 ghost use Rattle.gc_build.specs.Walks.{has_walk};
 ghost use Rattle.gc_rows.specs.Rows.{lists};
 
-use crate::instances::keeps;
+use crate::instances::{keeps, makers, named_by};
 use crate::making::Making;
 use gc_base::{Memory, Steps, Sym};
-use gc_build_numbers::Element;
-use gc_build_recipe::Chain;
+use gc_build_numbers::Numbered;
+use gc_build_recipe::{Chain, Variable};
 use gc_rows::{SymList, is_listed};
 use std::marker::Model;
 use std::sync::ledger::Ledger;
@@ -16,7 +19,7 @@ use std::sync::ledger::Ledger;
 /// kept.
 #[derive(Drop)]
 pub(crate) struct Kept<'a> {
-    places: &'a SymList,
+    pub places: &'a SymList,
     pub projected: &'a SymList,
     rows: Vec<bool>,
 }
@@ -30,21 +33,14 @@ impl<'a> Model for Kept<'a> {
 }
 
 impl Kept<'_> {
-    // Whether the instance on the row at a place is kept.
-    fn is_kept(&self, place: usize) -> bool
+    /// Whether the instance on the row at a place is kept.
+    pub(crate) fn is_kept(&self, place: usize) -> bool
         ensures { result ≡ is_kept place self.now }
     {
         match self.rows.get(place) {
             None => false,
             Some(kept) => *kept,
         }
-    }
-
-    // Whether it is, and has a variable at one of its places.
-    fn has(&self, var: Sym, place: usize) -> bool
-        ensures { result ≡ (lists self.now.places var && is_kept place self.now) }
-    {
-        is_listed(self.places.as_slice(), var) && self.is_kept(place)
     }
 
     // Whether it is, and has the walk of a path, which it stores or projects.
@@ -81,7 +77,9 @@ fn kept_of<'a, L: Ledger>(
 ) -> Result<Kept<'a>, Memory>
     ensures { IfOk result (λ kept. kept ≡ kept_of making.now chain.now) }
 {
-    let rows = kept_rows(making, chain, steps)?;
+    let makers = makers(making, chain.places.as_slice())?;
+    let named = named_by(making, &chain.condition)?;
+    let rows = kept_rows(making, chain, &makers, &named, steps)?;
     Ok(Kept {
         places: &chain.places,
         projected: &chain.projected,
@@ -93,33 +91,21 @@ fn kept_of<'a, L: Ledger>(
 fn kept_rows<L: Ledger>(
     making: &Making<'_>,
     chain: &Chain,
+    makers: &[Option<&Numbered>],
+    named: &[&Variable],
     steps: &mut Steps<L>,
 ) -> Result<Vec<bool>, Memory>
+    requires makers { map option_copied makers.now ≡ map (maker_of making.now) chain.now.places }
+    requires named { map (λ v. v.now) named.now ≡ named_by making.now chain.now.condition }
     ensures { IfOk result (λ kept. kept.items ≡ kept_from making.now chain.now 0 making.now.setting.rows) }
 {
     let setting = making.setting;
     let rows = setting.table.rows().as_slice();
     let mut kept = Vec::with_capacity(setting.alloc, rows.len())?;
     for (place, row) in rows.iter().enumerate() {
-        kept.push(keeps(making, chain, place, row, steps)?)?;
+        kept.push(keeps(making, chain, makers, named, place, row, steps)?)?;
     }
     Ok(kept)
-}
-
-/// Whether an instance is kept that has an element of a variable.
-pub(crate) fn is_claimed(kept: &[Kept<'_>], var: Sym, element: &Element) -> bool
-    ensures { result ≡ is_claimed kept.now var element.now }
-{
-    let rows = element.group.rows.as_slice();
-    rows.iter()
-        .any(|row| has_instance(kept, var, *row as usize))
-}
-
-// Whether an instance on the row at a place is kept that has a variable.
-fn has_instance(kept: &[Kept<'_>], var: Sym, place: usize) -> bool
-    ensures { result ≡ has_instance kept.now var place }
-{
-    kept.iter().any(|one| one.has(var, place))
 }
 
 /// Whether an instance on the row at a place is kept that has the walk of a path.

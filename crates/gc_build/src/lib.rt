@@ -16,10 +16,12 @@ mod kept;
 mod listed;
 mod made;
 mod making;
+mod names;
 mod nodes;
 mod paths;
 mod patterns;
 mod spans;
+mod standing;
 #[cfg(test)]
 mod tests;
 mod walks;

@@ -1,6 +1,6 @@
 ghost use Rattle.std.specs.Prelude.{◌≡◌, IfOk, map};
 ghost use Rattle.std.specs.Option.{option_copied, option_map};
-ghost use Rattle.gc_build.specs.Makings.{all_made, datum_by, description_at, element_of, made_at};
+ghost use Rattle.gc_build.specs.Makings.{datum_by, description_at, element_of, made_at};
 
 use crate::making::Making;
 use gc_base::{Duplicate, Id, LabelSet, Memory, Properties};
@@ -10,29 +10,21 @@ use gc_ppg::Kind;
 use gc_rows::{Datum, Row};
 use gc_values::{Made, MadeList};
 
-/// The variables of the CONSTRUCT as the row at a place makes them.
-pub(crate) fn all_made(making: &Making<'_>, place: usize, row: &Row) -> Result<MadeList, Memory>
-    ensures { IfOk result (λ made. made ≡ all_made making.now place row.now) }
-{
-    let made = each_made(making, making.variables, place, row)?;
-    Ok(MadeList::from_vec(made))
-}
-
-// Each of these variables as the row at a place makes it.
-fn each_made(
+/// Some variables of the CONSTRUCT as the row at a place makes them.
+pub(crate) fn made_of(
     making: &Making<'_>,
-    variables: &[Variable],
+    variables: &[&Variable],
     place: usize,
     row: &Row,
-) -> Result<Vec<Made>, Memory>
-    ensures { IfOk result (λ made. made.items ≡ map (made_at making.now place row.now) variables.now) }
+) -> Result<MadeList, Memory>
+    ensures { IfOk result (λ made. made ≡ map (made_at making.now place row.now) (map (λ v. v.now) variables.now)) }
 {
     let setting = making.setting;
     let mut made = Vec::with_capacity(setting.alloc, variables.len())?;
     for variable in variables {
         made.push(made_at(making, place, row, variable)?)?;
     }
-    Ok(made)
+    Ok(MadeList::from_vec(made))
 }
 
 // A variable as the row at a place makes it.

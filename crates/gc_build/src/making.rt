@@ -2,14 +2,15 @@ ghost use Rattle.std.specs.Prelude.{◌≡◌, ◌==◌, IfOk, slice_get};
 ghost use Rattle.std.specs.List.{find};
 ghost use Rattle.std.specs.Option.{option_and_then, option_copied};
 ghost use Rattle.gc_build_numbers.specs.Keys.{number_at, which_at};
+ghost use Rattle.gc_build.specs.Makers.{maker_of};
 ghost use Rattle.gc_build.specs.Makings.{descriptions_of, identity_at, identity_by, identity_of};
 ghost use Rattle.gc_build_descriptions.specs.Faults.{elements_of};
 ghost use Rattle.gc_build.specs.Walks.{along_graph, read_graph};
 
 use gc_base::{Id, Memory, Sym};
-use gc_build_descriptions::{Described, Description};
-use gc_build_numbers::{Element, Numbered, Setting};
-use gc_build_recipe::{Grouping, Variable};
+use gc_build_descriptions::{DescribedList, Description};
+use gc_build_numbers::{Element, Numbered, NumberedList, Setting};
+use gc_build_recipe::{Grouping, Variable, VariableList};
 use gc_ppg::Graph;
 use gc_values::{own_graph, walk_graph};
 use std::marker::Model;
@@ -18,9 +19,9 @@ use std::marker::Model;
 #[derive(Drop)]
 pub(crate) struct Making<'a> {
     pub setting: &'a Setting<'a>,
-    pub variables: &'a [Variable],
-    pub numbered: &'a [Numbered],
-    pub described: &'a [Described],
+    pub variables: &'a VariableList,
+    pub numbered: &'a NumberedList,
+    pub described: &'a DescribedList,
     pub next: u64,
 }
 
@@ -82,7 +83,7 @@ impl Making<'_> {
     fn number_at(&self, var: Sym, place: usize) -> Option<u64>
         ensures { result ≡ number_at self.now.numbered var place }
     {
-        match self.numbered(var) {
+        match self.numbered.get(var) {
             None => None,
             Some(numbered) => numbered.number_in(place),
         }
@@ -92,38 +93,34 @@ impl Making<'_> {
     fn which_at(&self, var: Sym, place: usize) -> Option<usize>
         ensures { result ≡ which_at self.now.numbered var place }
     {
-        match self.numbered(var) {
+        match self.numbered.get(var) {
             None => None,
             Some(numbered) => numbered.which_of(place),
         }
     }
 
-    // A variable by its number.
-    fn variable(&self, var: Sym) -> Option<&Variable>
+    /// The variable of a number, if the CONSTRUCT has it.
+    pub(crate) fn variable(&self, var: Sym) -> Option<&Variable>
         ensures { option_copied result ≡ find (λ v. v.var.0 == var.0) self.now.variables }
     {
-        self.variables.iter().find(|v| v.var.0 == var.0)
+        self.variables.get(var)
     }
 
-    // A variable with descriptions.
-    fn described(&self, var: Sym) -> Option<&Described>
-        ensures { option_copied result ≡ find (λ d. d.var.0 == var.0) self.now.described }
+    /// The variable of a number with its elements, if the CONSTRUCT has it.
+    pub(crate) fn maker(&self, var: Sym) -> Option<&Numbered>
+        ensures { option_copied result ≡ maker_of self.now var }
     {
-        self.described.iter().find(|d| d.var.0 == var.0)
-    }
-
-    // A variable with its elements.
-    fn numbered(&self, var: Sym) -> Option<&Numbered>
-        ensures { option_copied result ≡ find (λ v. v.var.0 == var.0) self.now.numbered }
-    {
-        self.numbered.iter().find(|v| v.var.0 == var.0)
+        match self.variable(var) {
+            None => None,
+            Some(variable) => self.numbered.get(variable.var),
+        }
     }
 
     /// The elements of a variable, by ascending keys.
     pub(crate) fn elements(&self, var: Sym) -> &[Element]
         ensures { result.now ≡ elements_of self.now.numbered var }
     {
-        match self.numbered(var) {
+        match self.numbered.get(var) {
             None => &[],
             Some(numbered) => numbered.elements.as_slice(),
         }
@@ -133,7 +130,7 @@ impl Making<'_> {
     pub(crate) fn descriptions(&self, var: Sym) -> &[Description]
         ensures { result.now ≡ descriptions_of self.now.described var }
     {
-        match self.described(var) {
+        match self.described.get(var) {
             None => &[],
             Some(described) => described.descriptions.as_slice(),
         }

@@ -15,6 +15,9 @@ use Rattle.gc_values.specs.Descriptions.{Description}
 use Rattle.gc_build_descriptions.specs.Described.{described, of_variable, start_of, with_assigned, with_label, without_label, without_property}
 use Rattle.gc_build_descriptions.specs.Faults.{elements_of, listed_elements}
 use Rattle.gc_build_descriptions.specs.Givens.{Given, described_with, given, given_to, with_given}
+use Rattle.gc_build_descriptions.specs.Said.{AreChanges, changed, said_of}
+use Rattle.gc_build_descriptions.specs.declared.said.Changes.{Changes}
+use Rattle.gc_build_descriptions.specs.declared.said.Said.{Said}
 
 -- a fold over some of a list, as one over what they are mapped to
 fold_of_mapped : {A B C : Type 0} (f : C → B → C) (g : C → A → C) (h : A → B) (p : B → Bool)
@@ -46,10 +49,33 @@ described_at s r variables v place e h i =
     (λ d a t. ap (λ values. record d { properties = put d.properties (record { name = a.property; values = values }) }) (given_at s variables a v.var place e t h i))
     (fold with_label (start_of s v.start e.group.rows) (of_variable (λ l. l.var) v.var r.labels)) r.assignments)
 
-pub described_so : (s : Setting) (r : Recipe) (variables : List Numbered) (givens : List Given) (v : Variable) (elements : List Element) (place : ℕ) (e : Element) (d : Description)
+described_so : (s : Setting) (r : Recipe) (variables : List Numbered) (givens : List Given) (v : Variable) (elements : List Element) (place : ℕ) (e : Element) (d : Description)
     → givens ≡ map (given s variables) r.assignments → elements ≡ elements_of variables v.var → place < length elements → e ≡ get_or elements place e
     → d ≡ described_with s r givens v place e → d ≡ described s r v e
 described_so s r variables givens v elements place e d g own h i so =
     so
     ∙ ap (λ gs. described_with s r gs v place e) g
     ∙ described_at s r variables v place e (subst (λ es. place < length es) own h) (i ∙ ap (λ es. get_or es place e) own)
+
+-- what is done to an element of a variable is what is said of the variable
+done_so : (s : Setting) (r : Recipe) (givens : List Given) (v : Variable) (place : ℕ) (e : Element) (said : Said) (c : Changes)
+    → said ≡ said_of r givens → AreChanges said v.var c
+    → changed place c (start_of s v.start e.group.rows) ≡ described_with s r givens v place e
+done_so s r givens v place e said c so are =
+    (λ i. fold without_property
+    (fold without_label
+    (fold (with_given place)
+    (fold with_label (start_of s v.start e.group.rows) (are.labels i))
+    (are.givens i))
+    (are.lost_labels i))
+    (are.lost_properties i))
+    ∙ (λ i. described_with s (record r { labels = (so i).labels; lost_labels = (so i).lost_labels; lost_properties = (so i).lost_properties }) (so i).givens v place e)
+
+pub described_by : (s : Setting) (r : Recipe) (variables : List Numbered) (v : Variable) (elements : List Element) (place : ℕ) (e : Element) (d : Description)
+    (said : Said) (c : Changes)
+    → said ≡ said_of r (map (given s variables) r.assignments) → AreChanges said v.var c
+    → elements ≡ elements_of variables v.var → place < length elements → e ≡ get_or elements place e
+    → d ≡ changed place c (start_of s v.start e.group.rows) → d ≡ described s r v e
+described_by s r variables v elements place e d said c so are own h i is =
+    let givens = map (given s variables) r.assignments in
+    described_so s r variables givens v elements place e d refl own h i (is ∙ done_so s r givens v place e said c so are)

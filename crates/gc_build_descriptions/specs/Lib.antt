@@ -3,4 +3,5 @@ pub mod Assigned
 pub mod Described
 pub mod Faults
 pub mod Givens
+pub mod Said
 pub mod Standing

@@ -1,26 +1,27 @@
 ghost use Rattle.std.specs.Prelude.{◌≡◌, [], IfOk, OnOk, fold, slice_get};
-ghost use Rattle.std.specs.Option.{unwrap_or};
-ghost use Rattle.gc_build_descriptions.specs.Described.{of_variable, with_label, without_label, without_property};
+ghost use Rattle.std.specs.Option.{option_copied, unwrap_or};
+ghost use Rattle.gc_build_descriptions.specs.Described.{with_label, without_label, without_property};
 ghost use Rattle.gc_build_descriptions.specs.Givens.{with_given};
+ghost use Rattle.gc_build_recipe.specs.Places.{listed};
 
 use crate::described::Description;
 use crate::givens::Given;
-use gc_base::{Duplicate, Memory, Sym, ValueSet};
+use gc_base::{Duplicate, Memory, ValueSet};
 use gc_build_recipe::{LabelOf, PropertyOf};
 use std::alloc::Global;
 
-/// Adds the labels of a variable.
+/// Adds labels.
 pub(crate) fn add_labels(
     description: &mut Description,
-    var: Sym,
-    labels: &[LabelOf],
+    labels: Option<&Vec<&LabelOf>>,
 ) -> Result<(), Memory>
-    ensures { OnOk result (description.new ≡ fold with_label description.old (of_variable (λ l. l.var) var labels.now)) }
+    ensures { OnOk result (description.new ≡ fold with_label description.old (listed (option_copied labels.entry))) }
 {
+    let Some(labels) = labels else {
+        return Ok(());
+    };
     for label in labels {
-        if label.var.0 == var.0 {
-            add_label(description, label)?;
-        }
+        add_label(description, label)?;
     }
     Ok(())
 }
@@ -33,20 +34,20 @@ fn add_label(description: &mut Description, label: &LabelOf) -> Result<(), Memor
     Ok(())
 }
 
-/// Gives the properties of a variable to the element at a place among its elements.
+/// Gives properties to the element at a place among those of a variable.
 pub(crate) fn give(
     alloc: Global,
     description: &mut Description,
-    var: Sym,
     place: usize,
-    givens: &[Given<'_>],
+    givens: Option<&Vec<&Given<'_>>>,
 ) -> Result<(), Memory>
-    ensures { OnOk result (description.new ≡ fold (with_given place) description.old (of_variable (λ g. g.var) var givens.now)) }
+    ensures { OnOk result (description.new ≡ fold (with_given place) description.old (listed (option_copied givens.entry))) }
 {
+    let Some(givens) = givens else {
+        return Ok(());
+    };
     for given in givens {
-        if given.var.0 == var.0 {
-            give_one(alloc, description, place, given)?;
-        }
+        give_one(alloc, description, place, given)?;
     }
     Ok(())
 }
@@ -74,14 +75,15 @@ fn given_at(alloc: Global, given: &Given<'_>, place: usize) -> Result<ValueSet, 
     }
 }
 
-/// Takes away the labels that a variable loses.
-pub(crate) fn remove_labels(description: &mut Description, var: Sym, labels: &[LabelOf])
-    ensures { description.new ≡ fold without_label description.old (of_variable (λ l. l.var) var labels.now) }
+/// Takes away labels.
+pub(crate) fn remove_labels(description: &mut Description, labels: Option<&Vec<&LabelOf>>)
+    ensures { description.new ≡ fold without_label description.old (listed (option_copied labels.entry)) }
 {
+    let Some(labels) = labels else {
+        return;
+    };
     for label in labels {
-        if label.var.0 == var.0 {
-            remove_label(description, label);
-        }
+        remove_label(description, label);
     }
 }
 
@@ -92,19 +94,19 @@ fn remove_label(description: &mut Description, label: &LabelOf)
     description.labels.remove(&label.label);
 }
 
-/// Takes away the properties that a variable loses.
+/// Takes away properties.
 pub(crate) fn remove_properties(
     alloc: Global,
     description: &mut Description,
-    var: Sym,
-    properties: &[PropertyOf],
+    properties: Option<&Vec<&PropertyOf>>,
 ) -> Result<(), Memory>
-    ensures { OnOk result (description.new ≡ fold without_property description.old (of_variable (λ p. p.var) var properties.now)) }
+    ensures { OnOk result (description.new ≡ fold without_property description.old (listed (option_copied properties.entry))) }
 {
+    let Some(properties) = properties else {
+        return Ok(());
+    };
     for property in properties {
-        if property.var.0 == var.0 {
-            remove_property(alloc, description, property)?;
-        }
+        remove_property(alloc, description, property)?;
     }
     Ok(())
 }

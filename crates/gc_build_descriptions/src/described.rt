@@ -1,4 +1,5 @@
 use gc_base::{LabelSet, Properties, Sequence, Sym};
+use gc_build_recipe::{ByVariable, OfVariable};
 use std::marker::Model;
 
 /// Labels and properties.
@@ -23,8 +24,16 @@ pub struct Described {
     pub descriptions: DescriptionList,
 }
 
+impl OfVariable for Described {
+    ghost var_of = { λ d. d.var };
+
+    fn var(&self) -> Sym {
+        self.var
+    }
+}
+
 /// Descriptions of the elements of a variable.
 pub type DescriptionList = Sequence<Description>;
 
 /// Variables with descriptions, in their order.
-pub type DescribedList = Sequence<Described>;
+pub type DescribedList = ByVariable<Described>;

@@ -1,12 +1,14 @@
 ghost use Rattle.std.specs.Prelude.{◌≡◌, map, IfOk};
-ghost use Rattle.gc_build_descriptions.specs.Described.{Describes, described, described_variable};
+ghost use Rattle.gc_build_descriptions.specs.Described.{Describes, described, described_variable, start_of};
 ghost use Rattle.gc_build_descriptions.specs.Faults.{elements_of};
-ghost use Rattle.gc_build_descriptions.specs.Givens.{described_with, given};
+ghost use Rattle.gc_build_descriptions.specs.Givens.{given};
+ghost use Rattle.gc_build_descriptions.specs.Said.{changed, said_of};
 
 use crate::changes::{add_labels, give, remove_labels, remove_properties};
 use crate::described::{Described, DescribedList, Description, DescriptionList};
 use crate::fault::Refusal;
 use crate::givens::{Given, all_given, elements_of};
+use crate::said::{Changes, Said, changes_of, said_by};
 use crate::starts::start_of;
 use gc_base::{Memory, Steps};
 use gc_build_numbers::{Element, Numbering, Setting};
@@ -39,9 +41,10 @@ fn all_described<L: Ledger>(
     requires { givens.now ≡ map (given setting.now numbering.now.variables) recipe.now.assignments }
     ensures { IfOk result (λ all. all ≡ map (described_variable setting.now recipe.now numbering.now.variables) recipe.now.variables) }
 {
+    let said = said_by(setting.alloc, recipe, givens)?;
     let mut all = DescribedList::new(setting.alloc);
     for variable in recipe.variables.as_slice() {
-        let descriptions = descriptions(setting, recipe, numbering, variable, givens, steps)?;
+        let descriptions = descriptions(setting, recipe, &said, numbering, variable, steps)?;
         all.push(Described {
             var: variable.var,
             descriptions,
@@ -54,46 +57,40 @@ fn all_described<L: Ledger>(
 fn descriptions<L: Ledger>(
     setting: &Setting<'_>,
     recipe: &Recipe,
+    said: &Said<'_>,
     numbering: &Numbering,
     variable: &Variable,
-    givens: &[Given<'_>],
     steps: &mut Steps<L>,
 ) -> Result<DescriptionList, Memory>
-    requires { givens.now ≡ map (given setting.now numbering.now.variables) recipe.now.assignments }
+    requires { said.now ≡ said_of recipe.now (map (given setting.now numbering.now.variables) recipe.now.assignments) }
     ensures { IfOk result (λ all. all ≡ map (described setting.now recipe.now variable.now) (elements_of numbering.now.variables variable.now.var)) }
 {
     let mut all = DescriptionList::new(setting.alloc);
     let elements = elements_of(numbering, variable.var);
+    let changes = changes_of(said, variable.var);
     for (place, element) in elements.iter().enumerate() {
-        all.push(described_at(setting, recipe, variable, place, element, givens, steps)?)?;
+        all.push(described_at(setting, variable, place, element, changes, steps)?)?;
     }
     Ok(all)
 }
 
-// The description of the element at a place among those of a variable.
+// The description of the element at a place among those of a variable, to each of which this is done.
 fn described_at<L: Ledger>(
     setting: &Setting<'_>,
-    recipe: &Recipe,
     variable: &Variable,
     place: usize,
     element: &Element,
-    givens: &[Given<'_>],
+    changes: Changes<'_>,
     steps: &mut Steps<L>,
 ) -> Result<Description, Memory>
-    ensures { IfOk result (λ d. d ≡ described_with setting.now recipe.now givens.now variable.now place element.now) }
+    ensures { IfOk result (λ d. d ≡ changed place changes.entry (start_of setting.now variable.now.start element.now.group.rows)) }
 {
     let alloc = setting.alloc;
-    let var = variable.var;
     let rows = element.group.rows.as_slice();
     let mut description = start_of(setting, variable.start, rows, steps)?;
-    add_labels(&mut description, var, recipe.labels.as_slice())?;
-    give(alloc, &mut description, var, place, givens)?;
-    remove_labels(&mut description, var, recipe.lost_labels.as_slice());
-    remove_properties(
-        alloc,
-        &mut description,
-        var,
-        recipe.lost_properties.as_slice(),
-    )?;
+    add_labels(&mut description, changes.labels)?;
+    give(alloc, &mut description, place, changes.givens)?;
+    remove_labels(&mut description, changes.lost_labels);
+    remove_properties(alloc, &mut description, changes.lost_properties)?;
     Ok(description)
 }

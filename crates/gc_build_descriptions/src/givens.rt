@@ -1,6 +1,4 @@
-ghost use Rattle.std.specs.Prelude.{◌≡◌, ◌==◌, IfOk};
-ghost use Rattle.std.specs.List.{find};
-ghost use Rattle.std.specs.Option.{option_copied};
+ghost use Rattle.std.specs.Prelude.{◌≡◌, IfOk};
 ghost use Rattle.gc_build_descriptions.specs.Faults.{elements_of};
 ghost use Rattle.gc_build_descriptions.specs.Givens.{Gives, GiveAll};
 ghost use Rattle.gc_expr.specs.declared.expr.Fold.TheVariants.{Collect};
@@ -11,8 +9,8 @@ use crate::assigned::assigned_values;
 use crate::fault::Refusal;
 use crate::faults::least_fault;
 use gc_base::{Memory, Name, Sequence, Steps, Sym, ValueSet};
-use gc_build_numbers::{Element, Numbered, Numbering, Setting};
-use gc_build_recipe::Assignment;
+use gc_build_numbers::{Element, Numbering, Setting};
+use gc_build_recipe::{Assignment, OfVariable};
 use gc_expr::Fold;
 use gc_group::fold;
 use gc_values::Val;
@@ -40,25 +38,22 @@ impl<'a> Model for Given<'a> {
     ghost view = { λ g. record { var = g.var; property = g.property.now; values = g.values } };
 }
 
+impl OfVariable for Given<'_> {
+    ghost var_of = { λ g. g.var };
+
+    fn var(&self) -> Sym {
+        self.var
+    }
+}
+
 /// The elements of a variable, in their order.
 pub(crate) fn elements_of(numbering: &Numbering, var: Sym) -> &[Element]
     ensures { result.now ≡ elements_of numbering.now.variables var }
 {
-    match numbered_as(numbering, var) {
+    match numbering.variables.get(var) {
         Some(numbered) => numbered.elements.as_slice(),
         None => &[],
     }
-}
-
-// A variable with its elements.
-fn numbered_as(numbering: &Numbering, var: Sym) -> Option<&Numbered>
-    ensures { option_copied result ≡ find (λ v. v.var.0 == var.0) numbering.now.variables }
-{
-    numbering
-        .variables
-        .as_slice()
-        .iter()
-        .find(|numbered| numbered.var.0 == var.0)
 }
 
 /// What all assignments give, or the fault of the first that is undefined on a row. Each is

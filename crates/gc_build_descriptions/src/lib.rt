@@ -11,6 +11,7 @@ mod describing;
 mod fault;
 mod faults;
 mod givens;
+mod said;
 mod starts;
 
 pub use described::{Described, DescribedList, Description, DescriptionList};

@@ -1,3 +1,4 @@
+pub mod Ends
 pub mod Keys
 pub mod Numbers
 pub mod Readers

@@ -1,18 +1,21 @@
 ghost use Rattle.std.specs.Prelude.{◌≡◌, ◌==◌, ◌++◌, IfOk, OnOk, is_some, map};
 ghost use Rattle.std.specs.List.{find, list_all};
-ghost use Rattle.std.specs.Option.{option_copied};
-ghost use Rattle.gc_build_numbers.specs.Keys.{bound_key, end_part, id_of, key_by, keys_of, number_at, single_key, term_part, walk_key, whole};
+ghost use Rattle.std.specs.Option.{option_and_then, option_copied, option_map};
+ghost use Rattle.gc_build_numbers.specs.Ends.{AreEnds};
+ghost use Rattle.gc_build_numbers.specs.Keys.{bound_key, is_of_kind, key_by, keys_of, number_in, single_key, term_part, walk_key, whole};
 ghost use Rattle.gc_build_numbers.specs.Readers.{terms_of};
 ghost use Rattle.gc_build_numbers.specs.Settings.{on_row};
 ghost use Rattle.gc_build_numbers.specs.WholeRows.{row_key};
 ghost use Rattle.gc_rows.specs.Rows.{cells};
+ghost use Rattle.gc_rows.specs.declared.datum.Datum.TheVariants.{Node};
 
-use crate::numbered::Numbered;
+use crate::numbered::{Numbered, NumberedList};
 use crate::setting::Setting;
 use crate::terms::{Reader, readers};
 use gc_base::{Duplicate, Id, Memory, Steps, Sym};
 use gc_build_recipe::{Grouping, Variable};
 use gc_group::{Key, KeyParts};
+use gc_ppg::Kind;
 use gc_rows::{Datum, Row};
 use std::alloc::Global;
 use std::sync::ledger::Ledger;
@@ -20,32 +23,68 @@ use std::sync::ledger::Ledger;
 /// The key that each row of the table has for a variable, if it has one, in the order of the rows.
 pub(crate) fn keys<L: Ledger>(
     setting: &Setting<'_>,
-    before: &[Numbered],
+    before: &NumberedList,
     variable: &Variable,
     steps: &mut Steps<L>,
 ) -> Result<Vec<Option<Key>>, Memory>
     ensures { IfOk result (λ keys. keys.items ≡ keys_of setting.now before.now variable.now) }
 {
     let readers = readers(setting.alloc, &variable.grouping)?;
+    let ends = ends_of(before, &variable.grouping);
     let rows = setting.table.rows().as_slice();
     let mut keys = Vec::with_capacity(setting.alloc, rows.len())?;
     for (place, row) in rows.iter().enumerate() {
         let place = Placed {
             setting,
-            before,
+            ends,
             place,
             row,
         };
-        keys.push(place.key(variable, &readers, steps)?)?;
+        keys.push(place.key(before, variable, &readers, steps)?)?;
     }
     Ok(keys)
 }
 
-// A row at its place in the table, and the variables that were numbered before.
+// The variables at the ends of an edge, where they were numbered before it.
+#[derive(Clone, Copy)]
+struct Ends<'a> {
+    source: Option<&'a Numbered>,
+    target: Option<&'a Numbered>,
+}
+
+// The ends of a variable that is grouped so, which are looked up once for all rows.
+fn ends_of<'a>(before: &'a NumberedList, grouping: &Grouping) -> Ends<'a>
+    ensures { AreEnds before.now grouping.now result }
+{
+    match grouping {
+        Grouping::Link {
+            source,
+            target,
+            terms: _,
+        } => ends_between(before, *source, *target),
+        _ => Ends {
+            source: None,
+            target: None,
+        },
+    }
+}
+
+// The variables at the ends of an edge between these two.
+fn ends_between<'a>(before: &'a NumberedList, source: Sym, target: Sym) -> Ends<'a>
+    ensures source { option_copied result.source ≡ find (λ v. v.var.0 == source.0) before.now }
+    ensures target { option_copied result.target ≡ find (λ v. v.var.0 == target.0) before.now }
+{
+    Ends {
+        source: before.get(source),
+        target: before.get(target),
+    }
+}
+
+// A row at its place in the table, and the ends of the variable that it makes an element of.
 #[derive(Drop)]
 struct Placed<'a> {
     setting: &'a Setting<'a>,
-    before: &'a [Numbered],
+    ends: Ends<'a>,
     place: usize,
     row: &'a Row,
 }
@@ -54,18 +93,20 @@ impl Placed<'_> {
     // The key of the row for a variable, whose terms have these readers.
     fn key<L: Ledger>(
         &self,
+        before: &NumberedList,
         variable: &Variable,
         readers: &[Reader<'_>],
         steps: &mut Steps<L>,
     ) -> Result<Option<Key>, Memory>
-        requires { readers.now ≡ terms_of variable.now.grouping }
-        ensures { IfOk result (λ key. key ≡ key_by self.now.setting.now self.now.before.now variable.now.var variable.now.grouping self.now.place
-            self.now.row.now) }
+        requires readers { readers.now ≡ terms_of variable.now.grouping }
+        requires ends { AreEnds before.now variable.now.grouping self.now.ends }
+        ensures { IfOk result (λ key. key ≡ key_by self.now.setting.now before.now variable.now.var variable.now.kind variable.now.grouping
+            self.now.place self.now.row.now) }
     {
         let setting = self.setting;
         let alloc = setting.alloc;
         match &variable.grouping {
-            Grouping::Bound => bound_key(alloc, self.row.get(variable.var)),
+            Grouping::Bound => bound_key(alloc, variable.kind, self.row.get(variable.var)),
             Grouping::EachRow => {
                 let schema = setting.table.schema().as_slice();
                 Ok(Some(key_of(cells(alloc, schema, self.row)?)))
@@ -77,14 +118,14 @@ impl Placed<'_> {
                 Ok(whole(parts))
             }
             Grouping::Link {
-                source,
-                target,
+                source: _,
+                target: _,
                 terms: _,
             } => {
                 let room = readers.len().saturating_add(2);
                 let mut parts = Vec::with_capacity(alloc, room)?;
-                parts.push(self.end_part(*source)?)?;
-                parts.push(self.end_part(*target)?)?;
+                parts.push(end_part(self.ends.source, self.place)?)?;
+                parts.push(end_part(self.ends.target, self.place)?)?;
                 self.read(readers, &mut parts, steps)?;
                 Ok(whole(parts))
             }
@@ -105,47 +146,56 @@ impl Placed<'_> {
         }
         Ok(())
     }
+}
 
-    // The part for the end of an edge. A number that no identity has is want of memory.
-    fn end_part(&self, end: Sym) -> Result<Option<Datum>, Memory>
-        ensures { IfOk result (λ part. part ≡ end_part self.now.before.now end self.now.place) }
-    {
-        match number_at(self.before, end, self.place) {
-            None => Ok(None),
-            Some(number) => {
-                let id = Id::new(number).ok_or(Memory)?;
-                Ok(Some(Datum::Node(id)))
+// The part for the end of an edge, by the row at a place. A number that no identity has is want of memory.
+fn end_part(end: Option<&Numbered>, place: usize) -> Result<Option<Datum>, Memory>
+    ensures { IfOk result (λ part. part ≡ option_map Node (option_and_then (number_in place) (option_copied end.entry))) }
+{
+    match number_in(end, place) {
+        None => Ok(None),
+        Some(number) => {
+            let id = Id::new(number).ok_or(Memory)?;
+            Ok(Some(Datum::Node(id)))
+        }
+    }
+}
+
+// The number that the row at a place gives to a variable, if it was numbered before.
+fn number_in(numbered: Option<&Numbered>, place: usize) -> Option<u64>
+    ensures { result ≡ option_and_then (number_in place) (option_copied numbered.entry) }
+{
+    match numbered {
+        None => None,
+        Some(numbered) => numbered.number_in(place),
+    }
+}
+
+// The key for a bound variable of a kind that stands for this.
+fn bound_key(alloc: Global, kind: Kind, datum: Option<&Datum>) -> Result<Option<Key>, Memory>
+    ensures { IfOk result (λ key. key ≡ bound_key kind (option_copied datum.entry)) }
+{
+    match datum {
+        None => Ok(None),
+        Some(datum) => {
+            if is_of_kind(kind, datum) {
+                single_key(alloc, datum)
+            } else {
+                Ok(None)
             }
         }
     }
 }
 
-// The number that the row at a place gives to a variable, if it was given before.
-fn number_at(before: &[Numbered], var: Sym, place: usize) -> Option<u64>
-    ensures { result ≡ number_at before.now var place }
-{
-    match numbered(before, var) {
-        None => None,
-        Some(variable) => variable.number_in(place),
-    }
-}
-
-// The variable, if it is among these.
-fn numbered(before: &[Numbered], var: Sym) -> Option<&Numbered>
-    ensures { option_copied result ≡ find (λ v. v.var.0 == var.0) before.now }
-{
-    before.iter().find(|variable| variable.var.0 == var.0)
-}
-
-// The key for a bound variable that stands for this.
-fn bound_key(alloc: Global, datum: Option<&Datum>) -> Result<Option<Key>, Memory>
-    ensures { IfOk result (λ key. key ≡ bound_key (option_copied datum.entry)) }
+// Whether a datum is an element of a kind.
+fn is_of_kind(kind: Kind, datum: &Datum) -> bool
+    ensures { result ≡ is_of_kind kind datum.now }
 {
     match datum {
-        Some(datum @ (Datum::Node(_) | Datum::Edge(_) | Datum::Stored(_))) => {
-            single_key(alloc, datum)
-        }
-        _ => Ok(None),
+        Datum::Node(_) => kind == Kind::Node,
+        Datum::Edge(_) => kind == Kind::Edge,
+        Datum::Stored(_) => kind == Kind::Path,
+        _ => false,
     }
 }
 

@@ -12,6 +12,6 @@ mod setting;
 mod terms;
 mod whole_rows;
 
-pub use numbered::{Element, Numbered, Numbering};
+pub use numbered::{Element, Numbered, NumberedList, Numbering};
 pub use numbering::number;
 pub use setting::Setting;

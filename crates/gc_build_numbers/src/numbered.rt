@@ -1,4 +1,5 @@
 use gc_base::{Sequence, Sym};
+use gc_build_recipe::{ByVariable, OfVariable};
 use gc_group::Group;
 
 /// An element that rows make: their group, and its number. The number of a bound element is its
@@ -46,6 +47,14 @@ impl Numbered {
     }
 }
 
+impl OfVariable for Numbered {
+    ghost var_of = { λ v. v.var };
+
+    fn var(&self) -> Sym {
+        self.var
+    }
+}
+
 /// The variables of a CONSTRUCT in their order.
 #[derive(Debug, Drop)]
 pub struct Numbering {
@@ -61,4 +70,4 @@ pub type ElementList = Sequence<Element>;
 pub type RowElements = Sequence<Option<usize>>;
 
 /// Variables that are numbered.
-pub type NumberedList = Sequence<Numbered>;
+pub type NumberedList = ByVariable<Numbered>;

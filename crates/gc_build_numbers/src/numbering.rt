@@ -48,7 +48,7 @@ fn add<L: Ledger>(
     match &variable.grouping {
         Grouping::EachRow => add_rows(setting, numbering, variable.var),
         _ => {
-            let keys = keys(setting, numbering.variables.as_slice(), variable, steps)?;
+            let keys = keys(setting, &numbering.variables, variable, steps)?;
             add_by_keys(setting.alloc, numbering, variable, &keys)
         }
     }

@@ -1,2 +1,3 @@
 pub mod ExpressionCodes
+pub mod Places
 pub mod Recipes

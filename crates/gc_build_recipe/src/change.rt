@@ -1,3 +1,4 @@
+use crate::by_variable::OfVariable;
 use gc_base::{Name, Sequence, Sym};
 use gc_expr::Expr;
 use std::marker::Model;
@@ -22,6 +23,14 @@ impl Model for Assignment {
     ghost view = { λ a. record { var = a.var; token = a.token; property = a.property; value = numbered_expr a.value } };
 }
 
+impl OfVariable for Assignment {
+    ghost var_of = { λ a. a.var };
+
+    fn var(&self) -> Sym {
+        self.var
+    }
+}
+
 /// A label of a variable.
 #[derive(Debug, Drop)]
 pub struct LabelOf {
@@ -29,11 +38,27 @@ pub struct LabelOf {
     pub label: Name,
 }
 
+impl OfVariable for LabelOf {
+    ghost var_of = { λ l. l.var };
+
+    fn var(&self) -> Sym {
+        self.var
+    }
+}
+
 /// A property of a variable.
 #[derive(Debug, Drop)]
 pub struct PropertyOf {
     pub var: Sym,
     pub property: Name,
+}
+
+impl OfVariable for PropertyOf {
+    ghost var_of = { λ p. p.var };
+
+    fn var(&self) -> Sym {
+        self.var
+    }
 }
 
 /// Assignments, in the order of the text.

@@ -1,3 +1,4 @@
+use crate::by_variable::{ByVariable, OfVariable};
 use gc_base::{Name, Sequence, Sym};
 use gc_ppg::Kind;
 
@@ -10,6 +11,14 @@ pub struct Variable {
     /// The variable of the MATCH with whose labels and properties it starts: itself where it is bound,
     /// or the one that it copies.
     pub start: Option<Sym>,
+}
+
+impl OfVariable for Variable {
+    ghost var_of = { λ v. v.var };
+
+    fn var(&self) -> Sym {
+        self.var
+    }
 }
 
 /// By what the rows are grouped that make one element.
@@ -43,4 +52,4 @@ pub type TermList = Sequence<Term>;
 
 /// The variables of a CONSTRUCT: nodes, then edges, then paths, each kind in the order in which they
 /// come first in the text.
-pub type VariableList = Sequence<Variable>;
+pub type VariableList = ByVariable<Variable>;

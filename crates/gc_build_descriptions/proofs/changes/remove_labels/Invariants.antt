@@ -1,8 +1,8 @@
-use Rattle.std.proofs.Common.{◌≡◌, drop, fold}
-use Rattle.gc_build_descriptions.specs.Described.{of_variable, without_label}
+use Rattle.std.proofs.Common.{◌≡◌, drop, fold, map}
+use Rattle.gc_build_descriptions.specs.Described.{without_label}
 use Rattle.gc_build_descriptions.proofs.changes.remove_labels.Given as goal
 
 -- the changes so far and those of the rest make the whole
 abbrev pub invariant-loop-label : goal.invariant-loop-label
 invariant-loop-label l =
-    fold without_label l.description (of_variable (λ l. l.var) l.var (drop l.label-index l.labels)) ≡ fold without_label l.initial.description (of_variable (λ l. l.var) l.var l.labels)
+    fold without_label l.description (map (λ x. x.now) (drop l.label-index l.label-items)) ≡ fold without_label l.initial.description (map (λ x. x.now) l.label-items)

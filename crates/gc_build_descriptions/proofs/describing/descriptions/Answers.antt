@@ -1,6 +1,6 @@
 use Rattle.gc_build_descriptions.specs.Described.{described}
 use Rattle.gc_build_descriptions.proofs.AssignedLaws.{map_with}
-use Rattle.gc_build_descriptions.proofs.GivenLaws.{described_so}
+use Rattle.gc_build_descriptions.proofs.GivenLaws.{described_by}
 use Rattle.gc_build_descriptions.proofs.describing.descriptions.Goals as goal
 
 pub loop-place-preserved : goal.loop-place-preserved
@@ -13,7 +13,7 @@ loop-place-preserved g c =
     let e = c.index-elements-place.result in
     let d = c.in_ok-described_at.field-0 in
     let so =
-    described_so s r c.args.numbering.now.variables c.args.givens.now v elements place e d
-    c.requires c.elements_of-elements.ensures c.loop-place-test.true c.index-elements-place.is c.in_ok-described_at.ensures in
+    described_by s r c.args.numbering.now.variables v elements place e d c.args.said.now c.changes_of-changes.result
+    c.requires c.changes_of-changes.ensures c.elements_of-elements.ensures c.loop-place-test.true c.index-elements-place.is c.in_ok-described_at.ensures in
     map_with (described s r v) c.loop-place.all c.push.new.self elements place e d
     c.loop-place-test.true c.index-elements-place.is c.loop-place.invariant so c.in_ok-push.ensures.ok
