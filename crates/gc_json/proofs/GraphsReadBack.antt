@@ -23,7 +23,7 @@ fits id h = omega arith
 
 -- ---- each part is exact
 
-items_exact : {X : Type 0} (f : X → Data) (P : X → Type 0) → ((x : X) → P x → IsExact (f x)) → (xs : List X) → AllByRecursion P xs → ItemsAreExact (items_of (map f xs))
+pub items_exact : {X : Type 0} (f : X → Data) (P : X → Type 0) → ((x : X) → P x → IsExact (f x)) → (xs : List X) → AllByRecursion P xs → ItemsAreExact (items_of (map f xs))
 items_exact f P each [] h = tt
 items_exact f P each (x ∷ xs) h = (each x h.0, items_exact f P each xs h.1)
 
@@ -49,7 +49,7 @@ node_exact n h =
 
 -- ---- each part is flat enough
 
-items_flat : {X : Type 0} (f : X → Data) (n : ℕ) → ((x : X) → depth (f x) ≤ n) → (xs : List X) → items_depth (items_of (map f xs)) ≤ n
+pub items_flat : {X : Type 0} (f : X → Data) (n : ℕ) → ((x : X) → depth (f x) ≤ n) → (xs : List X) → items_depth (items_of (map f xs)) ≤ n
 items_flat f n each [] = omega arith
 items_flat f n each (x ∷ xs) = omega (arith, each x, items_flat f n each xs)
 
@@ -68,14 +68,14 @@ node_flat n = omega (arith, items_flat string 0 (λ label. omega arith) n.labels
 edge_flat : (e : Edge) → depth (edge_data e) ≤ 3
 edge_flat e = omega (arith, items_flat string 0 (λ label. omega arith) e.labels, properties_flat e.properties)
 
-steps_flat : (steps : List Step) → items_depth (step_items steps) ≤ 0
+pub steps_flat : (steps : List Step) → items_depth (step_items steps) ≤ 0
 steps_flat [] = omega arith
 steps_flat (step ∷ steps) = omega (arith, steps_flat steps)
 
 path_flat : (p : Path) → depth (path_data p) ≤ 3
 path_flat p = omega (arith, items_flat string 0 (λ label. omega arith) p.labels, properties_flat p.properties, steps_flat p.walk.steps)
 
-graph_flat : (g : PropertyGraph) → depth (graph_data g) ≤ 127
+pub graph_flat : (g : PropertyGraph) → depth (graph_data g) ≤ 5
 graph_flat g = omega (arith, items_flat node_data 3 node_flat g.nodes, items_flat edge_data 3 edge_flat g.edges, items_flat path_data 3 path_flat g.paths)
 
 -- ---- ends and walks are of the graph, so their identities are bounded too
@@ -157,4 +157,4 @@ graph_exact g h =
     (edges, (refl, (refl, (refl, tt))), (omega arith, (refl, (refl, tt)), (nodes, (refl, tt), (paths, tt, tt))))
 
 pub read-canonical_text : (g : PropertyGraph) → IsGraph g → read (canonical_text g) ≡ Some (graph_data g)
-read-canonical_text g h = read-compact_text (graph_data g) (graph_exact g h) (graph_flat g)
+read-canonical_text g h = read-compact_text (graph_data g) (graph_exact g h) (omega (arith, graph_flat g))

@@ -5,22 +5,22 @@ pub mod FileAgrees
 mod Framing
 mod Fuel
 mod Gathered
-mod GatheredSteps
+pub mod GatheredSteps
 mod GraphsLoadBack
 pub mod GraphsReadBack
 mod Growing
 mod Keys
 mod ListTurns
 mod ManyItems
-mod PartsLoadBack
+pub mod PartsLoadBack
 mod Passing
 pub mod ReadsBack
-mod Rest
+pub mod Rest
 mod Search
 mod SortedSets
 mod TokenTurns
-mod Turns
-mod Utf8Texts
-mod WalkTurns
+pub mod Turns
+pub mod Utf8Texts
+pub mod WalkTurns
 mod Wholes
-mod WordTexts
+pub mod WordTexts

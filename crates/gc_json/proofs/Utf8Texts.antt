@@ -25,7 +25,7 @@ use Rattle.gc_json.proofs.WordTexts.{IsUtf8-word}
 
 -- texts and keys are UTF-8
 abbrev mutual
-  IsPlain : Data → Type 0
+  pub IsPlain : Data → Type 0
   IsPlain null = ⊤
   IsPlain (boolean b) = ⊤
   IsPlain (number n) = ⊤
@@ -33,11 +33,11 @@ abbrev mutual
   IsPlain (array ds) = ItemsArePlain ds
   IsPlain (object ms) = MembersArePlain ms
 
-  ItemsArePlain : Items → Type 0
+  pub ItemsArePlain : Items → Type 0
   ItemsArePlain no_items = ⊤
   ItemsArePlain (item d ds) = IsPlain d × ItemsArePlain ds
 
-  MembersArePlain : Members → Type 0
+  pub MembersArePlain : Members → Type 0
   MembersArePlain no_members = ⊤
   MembersArePlain (member k d ms) = IsUtf8 k × IsPlain d × MembersArePlain ms
 
@@ -52,7 +52,7 @@ utf8_comma true = IsUtf8-are_ascii (44 ∷ []) refl
 utf8_comma false = IsUtf8-nil
 
 mutual
-  utf8_text : (d : Data) → IsExact d → IsPlain d → IsUtf8 (compact_text d)
+  pub utf8_text : (d : Data) → IsExact d → IsPlain d → IsUtf8 (compact_text d)
   utf8_text null e h = IsUtf8-are_ascii _ refl
   utf8_text (boolean b) e h = IsUtf8-boolean b
   utf8_text (number n) e h = utf8_number n e
@@ -73,10 +73,10 @@ mutual
 
 -- ---- the data of a graph are plain
 
-key_utf8 : (k : List ℕ) → is_word k ≡ true → IsUtf8 k
+pub key_utf8 : (k : List ℕ) → is_word k ≡ true → IsUtf8 k
 key_utf8 k h = IsUtf8-word k h
 
-items_plain : {X : Type 0} (f : X → Data) (P : X → Type 0) → ((x : X) → P x → IsPlain (f x)) → (xs : List X) → AllByRecursion P xs → ItemsArePlain (items_of (map f xs))
+pub items_plain : {X : Type 0} (f : X → Data) (P : X → Type 0) → ((x : X) → P x → IsPlain (f x)) → (xs : List X) → AllByRecursion P xs → ItemsArePlain (items_of (map f xs))
 items_plain f P each [] h = tt
 items_plain f P each (x ∷ xs) h = (each x h.0, items_plain f P each xs h.1)
 
@@ -92,7 +92,7 @@ properties_plain : (ps : List Property) → AllByRecursion IsProperty ps → Mem
 properties_plain [] h = tt
 properties_plain (p ∷ ps) h = (IsUtf8-word p.name h.0.name, items_plain literal_data IsLiteral literal_plain p.values h.0.values.literals, properties_plain ps h.1)
 
-steps_plain : (steps : List Step) → ItemsArePlain (step_items steps)
+pub steps_plain : (steps : List Step) → ItemsArePlain (step_items steps)
 steps_plain [] = tt
 steps_plain (step ∷ steps) = (tt, (tt, steps_plain steps))
 
@@ -121,7 +121,7 @@ path_plain g p h = (
   ),
 )
 
-graph_plain : (g : PropertyGraph) → IsGraph g → IsPlain (graph_data g)
+pub graph_plain : (g : PropertyGraph) → IsGraph g → IsPlain (graph_data g)
 graph_plain g h = (
   key_utf8 _ refl,
   items_plain edge_data (IsEdge g.nodes) (edge_plain g) g.edges h.edges,

@@ -62,8 +62,8 @@ fn write_common(
     Ok(())
 }
 
-// The nodes and the edges of a walk in turn.
-fn write_walk(writer: &mut Writer, walk: &Walk) -> Result<(), Memory>
+/// Writes a walk as the array of its nodes and edges in turn.
+pub fn write_walk(writer: &mut Writer, walk: &Walk) -> Result<(), Memory>
     ensures { Adds result writer.old writer.new (tokens_of (walk_data walk.now)) }
 {
     writer.begin_array()?;

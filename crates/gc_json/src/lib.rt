@@ -29,7 +29,8 @@ mod unread;
 mod values;
 mod walks;
 
+pub use elements::write_walk;
 pub use laws::{canonical_texts_load_back, canonical_texts_read_back};
 pub use loading::load;
 pub use refusal::{GraphRefusal, Part, Spot};
-pub use text::print;
+pub use text::{print, write_graph};

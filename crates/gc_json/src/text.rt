@@ -20,7 +20,8 @@ pub fn print<L: Ledger>(alloc: Global, g: &Graph, steps: &mut Steps<L>) -> Resul
     Ok(Bytes::from_vec(writer.into_inner()))
 }
 
-fn write_graph<L: Ledger>(
+/// Writes a graph as the object of a graph file. It takes one step for each element.
+pub fn write_graph<L: Ledger>(
     writer: &mut Writer,
     g: &Graph,
     steps: &mut Steps<L>,

@@ -1,0 +1,9 @@
+use Rattle.std.proofs.Common.{◌≡◌, drop}
+use Rattle.serde_json.specs.View.{items_view}
+use Rattle.gc_cert_text.specs.Numbers.{is_id}
+use Rattle.gc_cert_text.specs.Shapes.{each_is}
+use Rattle.gc_cert_text.proofs.search_numbers.are_ids.Given as goal
+
+-- the rest are so just where all are
+abbrev pub invariant-loop-item : goal.invariant-loop-item
+invariant-loop-item l = each_is is_id (items_view (drop l.item-index l.items)) ≡ each_is is_id (items_view l.items)

@@ -1,0 +1,9 @@
+pub mod Certificates
+pub mod Expressions
+pub mod FormedSearches
+pub mod Graphs
+pub mod Numbers
+pub mod Options
+pub mod SearchNumberTexts
+pub mod SegmentsOfGraphs
+pub mod Shapes

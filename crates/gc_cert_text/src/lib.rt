@@ -1,0 +1,22 @@
+//! The text of certificates. Others rely on this: `read` gives exactly the certificate that bytes tell, or
+//! exactly their first refusal. This crate knows of no search and of no rule of acceptance.
+#![tactic(auto)]
+
+mod certificate;
+mod expressions;
+mod graph_walks;
+mod graphs;
+mod laws;
+mod lists;
+mod numbers;
+mod reading;
+mod refusal;
+mod search_numbers;
+mod segments;
+mod shapes;
+mod walks;
+
+pub use certificate::{Certificate, SearchDocList};
+pub use laws::certificates_are_formed;
+pub use reading::read;
+pub use refusal::CertRefusal;
