@@ -8,9 +8,11 @@ pub mod IntersectionLaws
 pub mod Itself
 pub mod Neighbours
 pub mod NewIds
+pub mod OriginLaws
 pub mod Outcomes
 pub mod Sets
 pub mod Shapes
+pub mod ShapesOf
 pub mod Together
 pub mod Turns
 pub mod UnionLaws

@@ -5,5 +5,6 @@ pub mod Differences
 pub mod Elements
 pub mod Gathered
 pub mod Intersections
+pub mod Origins
 pub mod Unions
 pub mod Wholes
