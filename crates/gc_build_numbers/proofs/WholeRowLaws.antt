@@ -1,17 +1,16 @@
 -- Where rows are grouped by whole rows, each is a group by itself, since the rows of a table ascend.
-use Rattle.std.proofs.Common.{◌≡◌, ℕ, suc, ◌+◌, Bool, true, false, List, [], ◌∷◌, ◌++◌, length, map, Option, None, Some, refl, sym, ap, ◌∙◌, subst, add-one, cond, ◌||◌}
+use Rattle.std.proofs.Common.{◌≡◌, ℕ, suc, ◌+◌, Bool, true, false, List, [], ◌∷◌, ◌++◌, length, map, Option, None, Some, refl, sym, ap, ◌∙◌, subst, add-one, cond}
 use Rattle.std.specs.List.{AllByRecursion, filter, list_any}
 use Rattle.std.specs.Option.{option_and_then, option_map}
-use Rattle.std.specs.Ordering.{is_eq, is_lt, ordering_reverse}
-use Rattle.std.specs.declared.cmp.Ordering.{Ordering}
-use Rattle.std.specs.declared.cmp.Ordering.TheVariants.{Less, Equal, Greater}
+use Rattle.std.specs.Ordering.{ordering_reverse}
+use Rattle.std.specs.declared.cmp.Ordering.TheVariants.{Less, Greater}
 use Rattle.std.specs.Cmp.{tied_itself}
 use Rattle.gc_base.specs.Ascending.{Ascends}
 use Rattle.gc_base.specs.declared.place.Sym.{Sym}
 use Rattle.gc_rows.specs.Rows.{row_order}
 use Rattle.gc_rows.specs.Tables.{AreRowsOver, HasExactly}
 use Rattle.gc_rows.specs.declared.row.Binding.{Binding}
-use Rattle.gc_group.specs.Groups.{AreGroupsOf, held_keys, is_key, key_order, rows_from, rows_with}
+use Rattle.gc_group.specs.Groups.{held_keys, key_order, rows_from}
 use Rattle.gc_group.specs.declared.grouping.Group.{Group}
 use Rattle.gc_group.specs.declared.key.Key.{Key}
 use Rattle.gc_group.proofs.KeyOrder.{key_order_total}
@@ -42,7 +41,7 @@ keys_are : (s : Setting) (before : List Numbered) (v : Variable) (place : ℕ) (
     → keys_from s before v place rows ≡ map Some (map (row_key s.schema) rows)
 keys_are s before v place [] each = refl
 keys_are s before v place (row ∷ rows) each =
-    λ i. ap (λ g. key_by s before v.var g place row) each i ∷ keys_are s before v (place + 1) rows each i
+    λ i. ap (λ g. key_by s before v.var v.kind g place row) each i ∷ keys_are s before v (place + 1) rows each i
 
 -- each key with its own row alone
 abbrev singles : ℕ → List Key → List Group

@@ -1,9 +1,11 @@
 -- By what rows are grouped that make one element.
-use Rattle.std.specs.Prelude.{ℕ, ◌+◌, ◌==◌, List, [], ◌∷◌, map, fold, Option, Some, None, is_some, slice_get, if◌then◌else◌}
+use Rattle.std.specs.Prelude.{ℕ, ◌+◌, ◌==◌, Bool, true, false, List, [], ◌∷◌, map, fold, Option, Some, None, is_some, slice_get, if◌then◌else◌}
 use Rattle.std.specs.List.{find, list_all}
 use Rattle.std.specs.Option.{option_map, option_and_then}
 use Rattle.gc_base.specs.Ascending.{with_item}
 use Rattle.gc_base.specs.declared.place.Sym.{Sym}
+use Rattle.gc_ppg.specs.declared.shape.Kind.{Kind}
+use Rattle.gc_ppg.specs.declared.shape.Kind.TheVariants as kind
 use Rattle.gc_rows.specs.Rows.{cells, datum_at}
 use Rattle.gc_rows.specs.declared.datum.Datum.{Datum}
 use Rattle.gc_rows.specs.declared.datum.Datum.TheVariants as datum
@@ -62,31 +64,39 @@ end_part before x place = option_map datum.Node (number_at before x place)
 abbrev pub whole : List (Option Datum) → Option Key
 whole parts = if list_all is_some parts then Some (record { parts = parts }) else None
 
--- a bound variable is grouped by the element that it stands for
-abbrev pub bound_key : Option Datum → Option Key
-bound_key d = option_map (λ id. record { parts = d ∷ [] }) (option_and_then id_of d)
-
--- one that stands for a walk that was found, by the walk
+-- the key that is a datum alone
 abbrev pub single_key : Datum → Option Key
 single_key d = Some (record { parts = Some d ∷ [] })
 
+-- a bound variable is grouped by the element that it stands for, where that is of the variable's kind
+abbrev pub is_of_kind : Kind → Datum → Bool
+is_of_kind kind.Node (datum.Node id) = true
+is_of_kind kind.Edge (datum.Edge id) = true
+is_of_kind kind.Path (datum.Stored id) = true
+is_of_kind k d = false
+
+abbrev pub bound_key : Kind → Option Datum → Option Key
+bound_key k None = None
+bound_key k (Some d) = if is_of_kind k d then single_key d else None
+
+-- one that stands for a walk that was found, by the walk
 abbrev pub walk_key : Option Datum → Option Key
 walk_key (Some (datum.Found walk)) = single_key (datum.Found walk)
 walk_key d = None
 
 -- the key of a row at a place in the table; a whole row is a key with what is unbound in it
-abbrev pub key_by : Setting → List Numbered → Sym → Grouping → ℕ → List Binding → Option Key
-key_by s before x by.Bound place row = bound_key (datum_at row x)
-key_by s before x by.EachRow place row = Some (record { parts = cells s.schema row })
-key_by s before x by.Walk place row = walk_key (datum_at row x)
-key_by s before x (by.Terms terms) place row = whole (map (term_part (on_row s row)) terms)
-key_by s before x (by.Link source target terms) place row =
+abbrev pub key_by : Setting → List Numbered → Sym → Kind → Grouping → ℕ → List Binding → Option Key
+key_by s before x k by.Bound place row = bound_key k (datum_at row x)
+key_by s before x k by.EachRow place row = Some (record { parts = cells s.schema row })
+key_by s before x k by.Walk place row = walk_key (datum_at row x)
+key_by s before x k (by.Terms terms) place row = whole (map (term_part (on_row s row)) terms)
+key_by s before x k (by.Link source target terms) place row =
     whole (end_part before source place ∷ end_part before target place ∷ map (term_part (on_row s row)) terms)
 
 -- the keys of rows, the first of which has this place
 abbrev pub keys_from : Setting → List Numbered → Variable → (place : ℕ) → List (List Binding) → List (Option Key)
 keys_from s before v place [] = []
-keys_from s before v place (row ∷ rows) = key_by s before v.var v.grouping place row ∷ keys_from s before v (place + 1) rows
+keys_from s before v place (row ∷ rows) = key_by s before v.var v.kind v.grouping place row ∷ keys_from s before v (place + 1) rows
 
 abbrev pub keys_of : Setting → List Numbered → Variable → List (Option Key)
 keys_of s before v = keys_from s before v 0 s.rows

@@ -1,7 +1,7 @@
 ghost use Rattle.std.specs.Prelude.{◌≡◌, ◌==◌, ◌++◌, IfOk, OnOk, is_some, map};
 ghost use Rattle.std.specs.List.{find, list_all};
 ghost use Rattle.std.specs.Option.{option_copied};
-ghost use Rattle.gc_build_numbers.specs.Keys.{bound_key, end_part, id_of, key_by, keys_of, number_at, single_key, term_part, walk_key, whole};
+ghost use Rattle.gc_build_numbers.specs.Keys.{bound_key, end_part, is_of_kind, key_by, keys_of, number_at, single_key, term_part, walk_key, whole};
 ghost use Rattle.gc_build_numbers.specs.Readers.{terms_of};
 ghost use Rattle.gc_build_numbers.specs.Settings.{on_row};
 ghost use Rattle.gc_build_numbers.specs.WholeRows.{row_key};
@@ -13,6 +13,7 @@ use crate::terms::{Reader, readers};
 use gc_base::{Duplicate, Id, Memory, Steps, Sym};
 use gc_build_recipe::{Grouping, Variable};
 use gc_group::{Key, KeyParts};
+use gc_ppg::Kind;
 use gc_rows::{Datum, Row};
 use std::alloc::Global;
 use std::sync::ledger::Ledger;
@@ -59,13 +60,13 @@ impl Placed<'_> {
         steps: &mut Steps<L>,
     ) -> Result<Option<Key>, Memory>
         requires { readers.now ≡ terms_of variable.now.grouping }
-        ensures { IfOk result (λ key. key ≡ key_by self.now.setting.now self.now.before.now variable.now.var variable.now.grouping self.now.place
-            self.now.row.now) }
+        ensures { IfOk result (λ key. key ≡ key_by self.now.setting.now self.now.before.now variable.now.var variable.now.kind variable.now.grouping
+            self.now.place self.now.row.now) }
     {
         let setting = self.setting;
         let alloc = setting.alloc;
         match &variable.grouping {
-            Grouping::Bound => bound_key(alloc, self.row.get(variable.var)),
+            Grouping::Bound => bound_key(alloc, variable.kind, self.row.get(variable.var)),
             Grouping::EachRow => {
                 let schema = setting.table.schema().as_slice();
                 Ok(Some(key_of(cells(alloc, schema, self.row)?)))
@@ -137,15 +138,31 @@ fn numbered(before: &[Numbered], var: Sym) -> Option<&Numbered>
     before.iter().find(|variable| variable.var.0 == var.0)
 }
 
-// The key for a bound variable that stands for this.
-fn bound_key(alloc: Global, datum: Option<&Datum>) -> Result<Option<Key>, Memory>
-    ensures { IfOk result (λ key. key ≡ bound_key (option_copied datum.entry)) }
+// The key for a bound variable of a kind that stands for this.
+fn bound_key(alloc: Global, kind: Kind, datum: Option<&Datum>) -> Result<Option<Key>, Memory>
+    ensures { IfOk result (λ key. key ≡ bound_key kind (option_copied datum.entry)) }
 {
     match datum {
-        Some(datum @ (Datum::Node(_) | Datum::Edge(_) | Datum::Stored(_))) => {
-            single_key(alloc, datum)
+        None => Ok(None),
+        Some(datum) => {
+            if is_of_kind(kind, datum) {
+                single_key(alloc, datum)
+            } else {
+                Ok(None)
+            }
         }
-        _ => Ok(None),
+    }
+}
+
+// Whether a datum is an element of a kind.
+fn is_of_kind(kind: Kind, datum: &Datum) -> bool
+    ensures { result ≡ is_of_kind kind datum.now }
+{
+    match datum {
+        Datum::Node(_) => kind == Kind::Node,
+        Datum::Edge(_) => kind == Kind::Edge,
+        Datum::Stored(_) => kind == Kind::Path,
+        _ => false,
     }
 }
 
