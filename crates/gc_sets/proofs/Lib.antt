@@ -1,4 +1,5 @@
 pub mod Adding
+pub mod AgreedLaws
 pub mod Assembling
 pub mod Coherent
 pub mod CommonParts

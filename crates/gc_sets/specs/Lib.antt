@@ -1,4 +1,5 @@
 pub mod Additions
+pub mod Agreed
 pub mod Claims
 pub mod Descriptions
 pub mod Differences

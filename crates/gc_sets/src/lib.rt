@@ -4,6 +4,7 @@
 #![tactic(auto)]
 
 mod additions;
+mod agreed;
 mod claim;
 mod common;
 mod descriptions;
@@ -19,6 +20,7 @@ mod union_of;
 mod uniting;
 mod whole;
 
+pub use agreed::unite_agreed;
 pub use descriptions::{unite_labels, unite_properties};
 pub use difference::minus;
 pub use intersection::intersect;
