@@ -1,8 +1,14 @@
 pub mod Atoms
+pub mod BoundRows
+pub mod ClaimOrigins
 pub mod Distinct
 pub mod Filters
+pub mod InstanceData
 pub mod Members
+pub mod NumberLaws
 pub mod OneClaims
 pub mod Outcomes
 pub mod Passing
 pub mod Searchable
+pub mod TableRows
+pub mod WalksIn

@@ -3,7 +3,7 @@ use Rattle.gc_build_numbers.specs.Numbers.{numbering}
 use Rattle.gc_build_recipe.specs.Recipes.{Recipe}
 use Rattle.gc_build.specs.Constructed.{IsUnited, making_by}
 use Rattle.gc_build.proofs.Outcomes.{built, unfit}
-use Rattle.gc_build.proofs.constructing.construct.Goals as goal
+use Rattle.gc_build.proofs.constructing.constructed.Goals as goal
 
 pub returns-in-None : goal.returns-in-None
 returns-in-None g c =
