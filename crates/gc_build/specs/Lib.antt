@@ -1,6 +1,7 @@
 pub mod AllPaths
 pub mod Claimed
 pub mod Constructed
+pub mod Fitting
 pub mod Kept
 pub mod Makers
 pub mod Makings

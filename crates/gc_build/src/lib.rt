@@ -13,6 +13,7 @@ mod elements;
 mod graphs;
 mod instances;
 mod kept;
+mod laws;
 mod listed;
 mod made;
 mod making;
@@ -28,3 +29,4 @@ mod walks;
 
 pub use built::{Built, Refusal};
 pub use constructing::construct;
+pub use laws::{the_rows_of_a_block_bind_nodes_of_its_graphs, what_is_built_comes_from_the_graphs};

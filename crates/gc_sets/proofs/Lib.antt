@@ -1,4 +1,5 @@
 pub mod Adding
+pub mod AgreedLaws
 pub mod Assembling
 pub mod Coherent
 pub mod CommonParts
@@ -8,9 +9,11 @@ pub mod IntersectionLaws
 pub mod Itself
 pub mod Neighbours
 pub mod NewIds
+pub mod OriginLaws
 pub mod Outcomes
 pub mod Sets
 pub mod Shapes
+pub mod ShapesOf
 pub mod Together
 pub mod Turns
 pub mod UnionLaws

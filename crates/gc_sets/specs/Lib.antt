@@ -1,9 +1,11 @@
 pub mod Additions
+pub mod Agreed
 pub mod Claims
 pub mod Descriptions
 pub mod Differences
 pub mod Elements
 pub mod Gathered
 pub mod Intersections
+pub mod Origins
 pub mod Unions
 pub mod Wholes

@@ -1,22 +1,20 @@
-use Rattle.std.proofs.Common.{ap, ◌∙◌, subst}
-use Rattle.gc_build_numbers.specs.Numbers.{numbering}
+use Rattle.std.proofs.Common.{ℕ, IfOk, IfSome, Option, Some, None, Result, Ok, Err}
+use Rattle.gc_build.specs.AllPaths.{Patterns}
+use Rattle.gc_build.specs.Constructed.{Constructs}
+use Rattle.gc_build.specs.Fitting.{Fits}
+use Rattle.gc_build.specs.declared.built.Built.{Built}
+use Rattle.gc_build.specs.declared.built.Refusal.{Refusal}
+use Rattle.gc_build_numbers.specs.Settings.{Setting}
 use Rattle.gc_build_recipe.specs.Recipes.{Recipe}
-use Rattle.gc_build.specs.Constructed.{IsUnited, making_by}
-use Rattle.gc_build.proofs.Outcomes.{built, unfit}
+use Rattle.gc_sets.specs.Origins.{ComesFrom}
+use Rattle.gc_build.proofs.ClaimOrigins.{built_comes}
 use Rattle.gc_build.proofs.constructing.construct.Goals as goal
 
-pub returns-in-None : goal.returns-in-None
-returns-in-None g c =
-    let n = c.in_ok-numbering.numbering in
-    let r = c.args.recipe.now in
-    let making = making_by c.args.setting.now r c.args.next n.variables c.in-Ok.described in
-    unfit c.args.setting.now r (record { block = _; segments = _ }) c.args.next n (c.in_ok-numbering.ensures ∙ ap (numbering c.args.setting.now) (c.as_slice.ensures ∙ ap (λ (r : Recipe). r.variables) c.recipe.view_is))
-    c.in-Ok.ensures.0 c.in-Some.after c.in-Some.ensures c.in-Ok.described c.in-Ok.ensures.1 (subst (IsUnited _ making r.chains r.graphs) c.in-None.is c.in_ok-united.ensures)
+comes : (s : Setting) (r : Recipe) (ps : Patterns) (next : ℕ) → Fits s r → (result : Result (Option Built) Refusal) → Constructs s r ps next result
+    → IfOk result (λ made. IfSome made (λ (b : Built). ComesFrom s.graphs next b.next b.graph))
+comes s r ps next fits (Ok (Some b)) h = built_comes s r ps next b fits h
+comes s r ps next fits (Ok None) h = tt
+comes s r ps next fits (Err refused) h = tt
 
-pub returns : goal.returns
-returns g c =
-    let n = c.in_ok-numbering.numbering in
-    let r = c.args.recipe.now in
-    let making = making_by c.args.setting.now r c.args.next n.variables c.in-Ok.described in
-    built c.args.setting.now r (record { block = _; segments = _ }) c.args.next n (c.in_ok-numbering.ensures ∙ ap (numbering c.args.setting.now) (c.as_slice.ensures ∙ ap (λ (r : Recipe). r.variables) c.recipe.view_is))
-    c.in-Ok.ensures.0 c.in-Some.after c.in-Some.ensures c.in-Ok.described c.in-Ok.ensures.1 c.in-Some-2.graph (subst (IsUnited _ making r.chains r.graphs) c.in-Some-2.is c.in_ok-united.ensures)
+pub returns-clause-comes : goal.returns-clause-comes
+returns-clause-comes g c = comes c.args.setting.now c.args.recipe.now _ c.args.next c.requires.fits c.constructed.result c.constructed.ensures

@@ -1,0 +1,30 @@
+ghost use Rattle.std.specs.Prelude.{ℕ, List, []};
+ghost use Rattle.std.specs.List.{AllByRecursion};
+ghost use Rattle.gc_alg.specs.Tables.{IsTableOfBlock};
+ghost use Rattle.gc_alg.specs.Trees.{ABlock, Tree};
+ghost use Rattle.gc_build.specs.AllPaths.{Patterns};
+ghost use Rattle.gc_build.specs.Constructed.{IsBuilt};
+ghost use Rattle.gc_build.specs.Fitting.{BindsNodes, Fits};
+ghost use Rattle.gc_build.specs.declared.built.Built.{Built};
+ghost use Rattle.gc_build_numbers.specs.Settings.{Setting};
+ghost use Rattle.gc_build_recipe.specs.Recipes.{Recipe};
+ghost use Rattle.gc_prod.specs.Segments.{Segments};
+ghost use Rattle.gc_rows.specs.Tables.{Relation};
+ghost use Rattle.gc_sets.specs.Origins.{ComesFrom};
+ghost use Rattle.gc_spec.specs.PropertyGraph.{IsGraph, PropertyGraph};
+ghost use Rattle.gc_walks.specs.Databases.{AreOnGraphs, database};
+
+/// The nodes for which the variables of a block stand in a row of its table are nodes of the graphs.
+pub fn the_rows_of_a_block_bind_nodes_of_its_graphs()
+    ensures { (graphs : List PropertyGraph) (segments : List Segments) (block : Tree ABlock) (table : Relation)
+        → AllByRecursion IsGraph graphs → AreOnGraphs graphs segments
+        → IsTableOfBlock (record { database = database graphs segments; block = block; given = [] }) table
+        → AllByRecursion (BindsNodes graphs) table.rows }
+{}
+
+/// What is built on a table that the recipe fits comes from the graphs: each element of it has the identity,
+/// kind, ends and walk of one of theirs, or a new identity.
+pub fn what_is_built_comes_from_the_graphs()
+    ensures { (s : Setting) (r : Recipe) (ps : Patterns) (next : ℕ) (b : Built) → Fits s r → IsBuilt s r ps next b
+        → ComesFrom s.graphs next b.next b.graph }
+{}
