@@ -1,6 +1,10 @@
 pub mod Atoms
 pub mod BoundRows
+pub mod ClaimEnds
 pub mod ClaimOrigins
+pub mod ClaimShapes
+pub mod ClaimWalks
+pub mod ClaimsWhole
 pub mod Distinct
 pub mod Filters
 pub mod InstanceData
@@ -9,6 +13,7 @@ pub mod NumberLaws
 pub mod OneClaims
 pub mod Outcomes
 pub mod Passing
+pub mod RowElements
 pub mod Searchable
 pub mod TableRows
 pub mod WalksIn
