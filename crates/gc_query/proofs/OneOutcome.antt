@@ -20,7 +20,6 @@ use Rattle.gc_sets.specs.Claims.{IsClaimed}
 use Rattle.gc_query.specs.Basics.{Comes, ComesTo, DenotesBasic, OnTable, OverSegments, WithCosts, asked_of, patterns_of, read_on, token_of}
 use Rattle.gc_query.specs.Costs.{costs_of, first_past}
 use Rattle.gc_query.specs.Queries.{Combines, Denotes, DenotesTerm, Heads, Joined, Terms, with_made}
-use Rattle.gc_query.specs.Outcomes.{Then}
 use Rattle.gc_query.specs.Sessions.{Answer, Answers, AnswersAsk, AnswersView}
 use Rattle.gc_query.specs.Standings.{Standing, Made}
 use Rattle.gc_query.specs.declared.fault.Fault.{Fault}

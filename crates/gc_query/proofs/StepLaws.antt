@@ -16,7 +16,7 @@ use Rattle.gc_spec.specs.PropertyGraph.{PropertyGraph}
 use Rattle.gc_query.specs.Answered.{IsRefused}
 use Rattle.gc_query.specs.Built.{built}
 use Rattle.gc_query.specs.Queries.{Denotes}
-use Rattle.gc_query.specs.Sessions.{Answer, Answers, Fails, Names as NamesGraph, Prints}
+use Rattle.gc_query.specs.Sessions.{Answers, Fails, Names as NamesGraph, Prints}
 use Rattle.gc_query.specs.Standings.{Made, Standing}
 use Rattle.gc_query.specs.Steps.{IsStep, standing}
 use Rattle.gc_query.specs.declared.fault.Fault.{Fault}

@@ -1,7 +1,6 @@
 use Rattle.std.proofs.Common.{◌≡◌, ◌≤◌, ◌∙◌, sym, ap, subst}
 use Rattle.std.specs.List.{AllByRecursion}
 use Rattle.gc_catalog.specs.NamedGraphs.{NamedGraphs, AreBelow, with_local}
-use Rattle.gc_sets.specs.Origins.{ComesFrom}
 use Rattle.gc_spec.specs.Coherence.{AreCoherent}
 use Rattle.gc_query.specs.Standings.{Made}
 use Rattle.gc_query.proofs.Standings.{below, coherent, longer_with}
