@@ -29,7 +29,7 @@ use Rattle.gc_values.specs.PathParts.{stored_walk}
 use Rattle.gc_values.specs.declared.reads.ReadUse.{ReadUse}
 use Rattle.gc_build_descriptions.specs.Faults.{elements_of, listed_elements}
 use Rattle.gc_build_numbers.specs.Keys.{bound_key, groups_of, key_by, keys_of}
-use Rattle.gc_build_numbers.specs.Numbers.{bound_number, numbering, taken_by}
+use Rattle.gc_build_numbers.specs.Numbers.{bound_number, elements_by, numbered_from, numbering, taken_by}
 use Rattle.gc_build_numbers.specs.Settings.{Setting}
 use Rattle.gc_build_numbers.specs.declared.numbered.Element.{Element}
 use Rattle.gc_build_numbers.specs.declared.numbered.Numbering.{Numbering}
@@ -46,7 +46,7 @@ use Rattle.gc_build.specs.Makings.{descriptions_of, identity_by}
 use Rattle.gc_build.specs.Walks.{along_graph, of_ids, read_graph, walk_edges, walk_nodes}
 use Rattle.gc_build.specs.declared.all_paths.AllParts.{AllParts}
 use Rattle.gc_build.specs.declared.built.Built.{Built}
-use Rattle.gc_build.proofs.NumberLaws.{IsBoundIn, IsElement, IsKeyAt, IsNumbered, before_of, element_in, group_key, held_key, key_at, numbered, taken_at}
+use Rattle.gc_build.proofs.NumberLaws.{IsBoundIn, IsKeyAt, IsNumbered, before_of, element_in, group_key, held_key, key_at, numbered, numbered_range, taken_at}
 
 -- what claims say of an identity is said by one of them
 module _ {X : Type 0} (unite : X → X → X) (id_of : X → ℕ) (of : X → ElementShape) (same : (x y : X) → of (unite x y) ≡ of x) where
@@ -167,12 +167,44 @@ module _ (s : Setting) (r : Recipe) (fits : Fits s r) (next : ℕ) where
   abbrev after : ℕ
   after = next + needed s r
 
-  -- an identity has a shape in one of the graphs, or is new
-  abbrev pub Comes : ℕ → ElementShape → Type 0
-  Comes id shape = IsOfOne s.graphs id shape ⊎ IsNew next after id
-
-  graph_is : (g : PropertyGraph) → Contains s.graphs g → IsGraph g
+  pub graph_is : (g : PropertyGraph) → Contains s.graphs g → IsGraph g
   graph_is g m = of_member IsGraph s.graphs g fits.graphs m
+
+  -- how a variable of the recipe is numbered
+  abbrev pub whole : Numbering
+  whole = numbering s r.variables
+
+  abbrev pub at : Variable → Numbering
+  at v = before_of s (record { next = 0; variables = [] }) r.variables v.var
+
+  pub is_numbered : (v : Variable) → Contains r.variables v → IsNumbered s (at v) whole v
+  is_numbered v m = numbered s (record { next = 0; variables = [] }) r.variables fits.distinct v m refl
+
+  abbrev pub groups : Variable → List Group
+  groups v = groups_of (keys_of s (at v).variables v)
+
+  pub element_among : (v : Variable) → Contains r.variables v → (e : Element) → Contains (elements_of (elements s r) v.var) e → Contains (elements_by v.grouping (at v).next (groups v)) e
+  element_among v m e k = subst (λ o. Contains (listed_elements o) e) (is_numbered v m).found k
+
+  -- the shape of a new element
+  abbrev pub shape_by : Kind → Variable → Element → Option ElementShape
+  shape_by kind.Node v e = Some NodeShape
+  shape_by kind.Edge v e = option_map (λ (ends : Ends). EdgeShape ends.from ends.to) (ends_by (making s r next) v.var v.grouping e)
+  shape_by kind.Path v e = option_map PathShape (walk_by s v.var v.grouping e)
+
+  -- an identity is that of a new element, which has this shape
+  pub record MadeBy (id : ℕ) (shape : ElementShape) : Type 0 where
+    pub variable : Variable
+    pub among : Contains r.variables variable
+    pub element : Element
+    pub there : Contains (numbered_from (at variable).next (groups variable)) element
+    pub taken : taken_at s (at variable).variables variable ≡ length (groups variable)
+    pub number : id ≡ next + element.number
+    pub is : shape_by variable.kind variable element ≡ Some shape
+
+  -- an identity has a shape in one of the graphs, or is that of a new element
+  abbrev pub Comes : ℕ → ElementShape → Type 0
+  Comes id shape = IsOfOne s.graphs id shape ⊎ MadeBy id shape
 
   node_of : (g : PropertyGraph) → Contains s.graphs g → (n : Node) → Contains g.nodes n → Comes n.id NodeShape
   node_of g m n k =
@@ -186,24 +218,6 @@ module _ (s : Setting) (r : Recipe) (fits : Fits s r) (next : ℕ) where
   path_of g m p k =
       inl (record { graph = g; among = m; there = of_member (λ (x : Path). shape_at g x.id ≡ Some (PathShape x.walk)) g.paths p (own_shapes g (graph_is g m).distinct).paths k })
 
-  -- how a variable of the recipe is numbered
-  abbrev whole : Numbering
-  whole = numbering s r.variables
-
-  abbrev at : Variable → Numbering
-  at v = before_of s (record { next = 0; variables = [] }) r.variables v.var
-
-  is_numbered : (v : Variable) → Contains r.variables v → IsNumbered s (at v) whole v
-  is_numbered v m = numbered s (record { next = 0; variables = [] }) r.variables fits.distinct v m refl
-
-  abbrev groups : Variable → List Group
-  groups v = groups_of (keys_of s (at v).variables v)
-
-  pub element_is : (v : Variable) → Contains r.variables v → (e : Element) → Contains (elements_of (elements s r) v.var) e → IsElement v.grouping (at v).next (groups v) e
-  element_is v m e k =
-      element_in v.grouping (at v).next (groups v) e
-      (subst (λ o. Contains (listed_elements o) e) (is_numbered v m).found k)
-
   -- the identity of a new element is new
   new_id : (v : Variable) → Contains r.variables v → (count : ℕ) → taken_at s (at v).variables v ≡ count → (n : ℕ) → n < (at v).next + count → IsNew next after (next + n)
   new_id v m count is n below =
@@ -211,17 +225,24 @@ module _ (s : Setting) (r : Recipe) (fits : Fits s r) (next : ℕ) where
       record { later = omega arith; before = omega (arith, within, below, is) }
 
   -- the row by whose key an element is grouped
-  key_row : (v : Variable) → (g : Group) → Contains (groups v) g → IsKeyAt s (at v).variables v 0 s.rows g.key
+  pub key_row : (v : Variable) → (g : Group) → Contains (groups v) g → IsKeyAt s (at v).variables v 0 s.rows g.key
   key_row v g m = key_at s (at v).variables v 0 s.rows g.key (held_key (keys_of s (at v).variables v) g.key (group_key (keys_of s (at v).variables v) g m).0)
 
+  -- so is that of what is made
+  made_new : (id : ℕ) (shape : ElementShape) → MadeBy id shape → IsNew next after id
+  made_new id shape m =
+      let range = numbered_range (at m.variable).next (groups m.variable) m.element m.there in
+      subst (IsNew next after) (sym m.number) (new_id m.variable m.among (length (groups m.variable)) m.taken m.element.number range.1)
+
   -- an element has its own identity or a new one
-  pub identity_comes : (v : Variable) → Contains r.variables v → (e : Element) (g : Grouping) → v.grouping ≡ g → IsElement g (at v).next (groups v) e → (shape : ElementShape)
-      → (g ≡ by.Bound → Comes e.number shape) → Comes (identity_by next g e.number) shape
-  identity_comes v m e by.Bound is el shape f = f refl
-  identity_comes v m e by.EachRow is el shape f = inr (new_id v m (length (groups v)) (ap (λ g. taken_by g (groups v)) is) e.number el.before)
-  identity_comes v m e by.Walk is el shape f = inr (new_id v m (length (groups v)) (ap (λ g. taken_by g (groups v)) is) e.number el.before)
-  identity_comes v m e (by.Terms terms) is el shape f = inr (new_id v m (length (groups v)) (ap (λ g. taken_by g (groups v)) is) e.number el.before)
-  identity_comes v m e (by.Link source target terms) is el shape f = inr (new_id v m (length (groups v)) (ap (λ g. taken_by g (groups v)) is) e.number el.before)
+  pub identity_comes : (v : Variable) → Contains r.variables v → (e : Element) (g : Grouping) → v.grouping ≡ g → Contains (elements_by g (at v).next (groups v)) e → (shape : ElementShape)
+      → shape_by v.kind v e ≡ Some shape → (g ≡ by.Bound → Comes e.number shape) → Comes (identity_by next g e.number) shape
+  identity_comes v m e by.Bound is el shape h f = f refl
+  identity_comes v m e by.EachRow is el shape h f = inr (record { variable = v; among = m; element = e; there = el; taken = ap (λ g. taken_by g (groups v)) is; number = refl; is = h })
+  identity_comes v m e by.Walk is el shape h f = inr (record { variable = v; among = m; element = e; there = el; taken = ap (λ g. taken_by g (groups v)) is; number = refl; is = h })
+  identity_comes v m e (by.Terms terms) is el shape h f = inr (record { variable = v; among = m; element = e; there = el; taken = ap (λ g. taken_by g (groups v)) is; number = refl; is = h })
+  identity_comes v m e (by.Link source target terms) is el shape h f =
+      inr (record { variable = v; among = m; element = e; there = el; taken = ap (λ g. taken_by g (groups v)) is; number = refl; is = h })
 
   -- what a bound variable of nodes stands for is a node of a graph
   bound_comes : (v : Variable) → Contains r.variables v → v.kind ≡ kind.Node → v.grouping ≡ by.Bound → (e : Element) → IsBoundIn (groups v) e → Comes e.number NodeShape
@@ -233,8 +254,9 @@ module _ (s : Setting) (r : Recipe) (fits : Fits s r) (next : ℕ) where
       let binds : BindsNodes s.graphs row.row = of_member (BindsNodes s.graphs) s.rows row.row fits.bound (at_number s.rows row.index row.row row.there) in
       inl (subst (λ id. IsOfOne s.graphs id NodeShape) (sym is.2 ∙ sym el.number) (binds v.var is.0 is.1))
 
-  bound_if : (v : Variable) → Contains r.variables v → v.kind ≡ kind.Node → (e : Element) (g : Grouping) → v.grouping ≡ g → IsElement g (at v).next (groups v) e → g ≡ by.Bound → Comes e.number NodeShape
-  bound_if v m node e by.Bound is el h = bound_comes v m node is e el
+  bound_if : (v : Variable) → Contains r.variables v → v.kind ≡ kind.Node → (e : Element) (g : Grouping) → v.grouping ≡ g → Contains (elements_by g (at v).next (groups v)) e → g ≡ by.Bound
+      → Comes e.number NodeShape
+  bound_if v m node e by.Bound is el h = bound_comes v m node is e (element_in by.Bound (at v).next (groups v) e el)
   bound_if v m node e by.EachRow is el h = absurd (cc h)
   bound_if v m node e by.Walk is el h = absurd (cc h)
   bound_if v m node e (by.Terms terms) is el h = absurd (cc h)
@@ -244,9 +266,9 @@ module _ (s : Setting) (r : Recipe) (fits : Fits s r) (next : ℕ) where
   node_by : (v : Variable) → Contains r.variables v → v.kind ≡ kind.Node → (e : Element) → Contains (elements_of (elements s r) v.var) e → (d : Description) (c : Node)
       → Contains (node_claims (making s r next) v e d) c → Comes c.id NodeShape
   node_by v m node e k d c n =
-      let el = element_is v m e k in
+      let el = element_among v m e k in
       subst (λ (x : Node). Comes x.id NodeShape) (only (node_claim (identity_by next v.grouping e.number) d) c n)
-      (identity_comes v m e v.grouping refl el NodeShape (bound_if v m node e v.grouping refl el))
+      (identity_comes v m e v.grouping refl el NodeShape (ap (λ k. shape_by k v e) node) (bound_if v m node e v.grouping refl el))
 
   read_comes : (v : Variable) (n : ℕ) (ends : Ends) → option_map along_edge (option_and_then (λ (g : PropertyGraph). edge_at g.edges n) (read_graph s v.var)) ≡ Some ends → Comes n (EdgeShape ends.from ends.to)
   read_comes v n ends h =
@@ -261,11 +283,12 @@ module _ (s : Setting) (r : Recipe) (fits : Fits s r) (next : ℕ) where
   ends_bound v e (by.Terms terms) ends h is = absurd (cc is)
   ends_bound v e (by.Link source target terms) ends h is = absurd (cc is)
 
-  edge_by : (v : Variable) → Contains r.variables v → (e : Element) → Contains (elements_of (elements s r) v.var) e → (d : Description) (c : Edge)
+  edge_by : (v : Variable) → Contains r.variables v → v.kind ≡ kind.Edge → (e : Element) → Contains (elements_of (elements s r) v.var) e → (d : Description) (c : Edge)
       → Contains (edge_claims (making s r next) v e d) c → Comes c.id (edge_shape c)
-  edge_by v m e k d c n =
+  edge_by v m edge e k d c n =
       let one = edge_one (identity_by next v.grouping e.number) d (ends_by (making s r next) v.var v.grouping e) c n in
-      let comes = identity_comes v m e v.grouping refl (element_is v m e k) (EdgeShape one.0.from one.0.to) (ends_bound v e v.grouping one.0 one.1) in
+      let comes = identity_comes v m e v.grouping refl (element_among v m e k) (EdgeShape one.0.from one.0.to)
+      (ap (λ k. shape_by k v e) edge ∙ ap (option_map (λ (ends : Ends). EdgeShape ends.from ends.to)) one.1) (ends_bound v e v.grouping one.0 one.1) in
       subst (λ shape. Comes c.id shape) (sym one.3) (subst (λ id. Comes id (EdgeShape one.0.from one.0.to)) (sym one.2) comes)
 
   walk_comes : (v : Variable) (n : ℕ) (walk : Walk) → stored_walk (read_graph s v.var) n ≡ Some walk → Comes n (PathShape walk)
@@ -281,15 +304,16 @@ module _ (s : Setting) (r : Recipe) (fits : Fits s r) (next : ℕ) where
   walk_bound v e (by.Terms terms) walk h is = absurd (cc is)
   walk_bound v e (by.Link source target terms) walk h is = absurd (cc is)
 
-  path_by : (v : Variable) → Contains r.variables v → (e : Element) → Contains (elements_of (elements s r) v.var) e → (d : Description) (c : Path)
+  path_by : (v : Variable) → Contains r.variables v → v.kind ≡ kind.Path → (e : Element) → Contains (elements_of (elements s r) v.var) e → (d : Description) (c : Path)
       → Contains (path_claims (making s r next) v e d) c → Comes c.id (path_shape c)
-  path_by v m e k d c n =
+  path_by v m path e k d c n =
       let one = path_one (identity_by next v.grouping e.number) d (walk_by s v.var v.grouping e) c n in
-      let comes = identity_comes v m e v.grouping refl (element_is v m e k) (PathShape one.0) (walk_bound v e v.grouping one.0 one.1) in
+      let comes = identity_comes v m e v.grouping refl (element_among v m e k) (PathShape one.0)
+      (ap (λ k. shape_by k v e) path ∙ ap (option_map PathShape) one.1) (walk_bound v e v.grouping one.0 one.1) in
       subst (λ shape. Comes c.id shape) (sym one.3) (subst (λ id. Comes id (PathShape one.0)) (sym one.2) comes)
 
   -- the claims of a kind for a variable
-  claims_by : {X : Type 0} (kept : List Kept) (k : Kind) (claim : Variable → Element → Description → List X) (v : Variable) (c : X) → Contains (claims_for (making s r next) kept k claim v) c
+  pub claims_by : {X : Type 0} (kept : List Kept) (k : Kind) (claim : Variable → Element → Description → List X) (v : Variable) (c : X) → Contains (claims_for (making s r next) kept k claim v) c
       → (v.kind ≡ k) × (e : Element) × (d : Description) × Contains (elements_of (elements s r) v.var) e × Contains (claim v e d) c × (is_claimed kept v.var e ≡ true)
   claims_by {X} kept k claim v c m = at (same_kind v.kind k) refl m
     where
@@ -334,7 +358,7 @@ module _ (s : Setting) (r : Recipe) (fits : Fits s r) (next : ℕ) where
         (λ n.
         let from = from_flat_map _ r.variables c n in
         let by = claims_by kept kind.Edge (edge_claims (making s r next)) from.0 c from.2 in
-        edge_by from.0 from.1 by.1 by.3 by.2 c by.4)
+        edge_by from.0 from.1 by.0 by.1 by.3 by.2 c by.4)
         (λ n.
         let from = from_flat_map _ parts c n in
         let ids = ids_from (λ (x : Edge). x.id) (λ (g : PropertyGraph). g.edges) _ (along_graph s from.0.path) c from.2 in
@@ -351,7 +375,7 @@ module _ (s : Setting) (r : Recipe) (fits : Fits s r) (next : ℕ) where
         (λ n.
         let from = from_flat_map _ r.variables c n in
         let by = claims_by kept kind.Path (path_claims (making s r next)) from.0 c from.2 in
-        path_by from.0 from.1 by.1 by.3 by.2 c by.4)
+        path_by from.0 from.1 by.0 by.1 by.3 by.2 c by.4)
         (λ k. let items = items_from s.graphs graphs (λ (g : PropertyGraph). g.paths) c k in path_of items.0 items.1 c items.2)
         (Contains-append_cases of_variables of_graphs c m)
 
@@ -370,5 +394,5 @@ module _ (s : Setting) (r : Recipe) (fits : Fits s r) (next : ℕ) where
 -- what is built comes from the graphs
 pub built_comes : (s : Setting) (r : Recipe) (ps : Patterns) (next : ℕ) (b : Built) → Fits s r → IsBuilt s r ps next b → ComesFrom s.graphs next b.next b.graph
 built_comes s r ps next b fits h id shape t =
-    subst (λ n. IsOfOne s.graphs id shape ⊎ IsNew next n id) (sym h.after)
-    (graph_comes s r fits next (map (kept_of (making s r next)) r.chains) h.due.parts r.graphs b.graph (subst (λ (c : Claims). IsClaimed c b.graph) h.due.are h.graph) id shape (of_shape b.graph id shape t))
+    let comes = graph_comes s r fits next (map (kept_of (making s r next)) r.chains) h.due.parts r.graphs b.graph (subst (λ (c : Claims). IsClaimed c b.graph) h.due.are h.graph) id shape (of_shape b.graph id shape t) in
+    subst (λ n. IsOfOne s.graphs id shape ⊎ IsNew next n id) (sym h.after) (⊎_elim (λ old. inl old) (λ made. inr (made_new s r fits next id shape made)) comes)

@@ -1,6 +1,10 @@
 pub mod Atoms
 pub mod BoundRows
+pub mod ClaimEnds
 pub mod ClaimOrigins
+pub mod ClaimShapes
+pub mod ClaimWalks
+pub mod ClaimsWhole
 pub mod Distinct
 pub mod Filters
 pub mod InstanceData
@@ -12,6 +16,7 @@ pub mod NumberLaws
 pub mod OneClaims
 pub mod Outcomes
 pub mod Passing
+pub mod RowElements
 pub mod SameMade
 pub mod Searchable
 pub mod StandingLaws

@@ -1,5 +1,5 @@
 -- The elements of each variable of a CONSTRUCT, by the numbering of all.
-use Rattle.std.proofs.Common.{◌≡◌, ⊎_elim, ℕ, suc, ◌+◌, ◌<◌, ◌≤◌, ◌==◌, ◌||◌, Bool, true, false, cond, List, [], ◌∷◌, ◌++◌, length, find, fold, Option, None, Some, refl, sym, ap, ◌∙◌, subst, slice_get, arith}
+use Rattle.std.proofs.Common.{◌≡◌, ◌⊎◌, inl, inr, ⊎_elim, ℕ, suc, ◌+◌, ◌<◌, ◌≤◌, ◌==◌, ◌||◌, Bool, true, false, cond, List, [], ◌∷◌, ◌++◌, length, find, fold, Option, None, Some, refl, sym, ap, ◌∙◌, subst, slice_get, arith}
 use Rattle.std.specs.List.{AllByRecursion, Contains, list_any}
 use Rattle.std.specs.Option.{option_or, option_to_list}
 use Rattle.std.specs.Cmp.{nat_eq_equiv}
@@ -121,6 +121,68 @@ numbered_range n (g ∷ gs) e m =
     (λ same. subst (λ (f : Element). (n ≤ f.number) × (f.number < n + suc (length gs)) × Contains (g ∷ gs) f.group) same (omega arith, omega arith, contains_here g gs))
     (λ behind. let rest = numbered_range (n + 1) gs e behind in (omega (arith, rest.0), omega (arith, rest.1), contains_later g gs e.group rest.2))
     (cons_cases (record { number = n; group = g }) (numbered_from (n + 1) gs) e m)
+
+-- no two of them have one number
+pub numbered_same : (n : ℕ) (gs : List Group) (e f : Element) → Contains (numbered_from n gs) e → Contains (numbered_from n gs) f → e.number ≡ f.number → e ≡ f
+numbered_same n [] e f m k same = absurd (omega (arith, m.1))
+numbered_same n (g ∷ gs) e f m k same =
+    let first : Element = record { number = n; group = g } in
+    ⊎_elim
+    (λ a. ⊎_elim
+    (λ b. sym a ∙ b)
+    (λ b. let later = (numbered_range (n + 1) gs f b).0 in absurd (omega (arith, later, same, ap (λ (x : Element). x.number) a)))
+    (cons_cases first (numbered_from (n + 1) gs) f k))
+    (λ a. ⊎_elim
+    (λ b. let later = (numbered_range (n + 1) gs e a).0 in absurd (omega (arith, later, same, ap (λ (x : Element). x.number) b)))
+    (λ b. numbered_same (n + 1) gs e f a b same)
+    (cons_cases first (numbered_from (n + 1) gs) f k))
+    (cons_cases first (numbered_from (n + 1) gs) e m)
+
+-- the numbers of two variables lie apart
+module _ (s : Setting) where
+  abbrev pub at_turn : Numbering → List Variable → Variable → Numbering
+  at_turn so_far vs v = before_of s so_far vs v.var
+
+  first_turn : (so_far : Numbering) (u : Variable) (vs : List Variable) (v : Variable) → u ≡ v → at_turn so_far (u ∷ vs) v ≡ so_far
+  first_turn so_far u vs v same =
+      ap (λ b. cond b so_far (before_of s (with_variable s so_far u) vs v.var)) (ap (λ (w : Variable). w.var.0 == v.var.0) same ∙ same_itself v.var.0)
+
+  later_turn : (so_far : Numbering) (u : Variable) (vs : List Variable) (v : Variable) → list_any (λ w. w.var.0 == u.var.0) vs ≡ false → Contains vs v
+      → at_turn so_far (u ∷ vs) v ≡ at_turn (with_variable s so_far u) vs v
+  later_turn so_far u vs v distinct m =
+      ap (λ b. cond b so_far (before_of s (with_variable s so_far u) vs v.var)) (nat_eq_equiv.symm u.var.0 v.var.0 ∙ apart u.var.0 vs v distinct m)
+
+  abbrev pub turn_end : Numbering → Variable → ℕ
+  turn_end at v = at.next + taken_at s at.variables v
+
+  -- the first variable takes its numbers before those behind it
+  first_before : (so_far : Numbering) (u : Variable) (vs : List Variable) (v w : Variable) → u ≡ v → list_any (λ x. x.var.0 == u.var.0) vs ≡ false → Contains vs w
+      → turn_end (at_turn so_far (u ∷ vs) v) v ≤ (at_turn so_far (u ∷ vs) w).next
+  first_before so_far u vs v w same distinct m =
+      let rises = later_before s (with_variable s so_far u) vs w.var in
+      subst (λ (n : Numbering). turn_end n v ≤ (at_turn so_far (u ∷ vs) w).next) (sym (first_turn so_far u vs v same))
+      (subst (λ (n : Numbering). turn_end so_far v ≤ n.next) (sym (later_turn so_far u vs w distinct m))
+      (subst (λ (x : Variable). turn_end so_far x ≤ (at_turn (with_variable s so_far u) vs w).next) same rises))
+
+  pub ranges : (so_far : Numbering) (vs : List Variable) → AreDistinct vs → (v w : Variable) → Contains vs v → Contains vs w
+      → (v ≡ w) ⊎ ((turn_end (at_turn so_far vs v) v ≤ (at_turn so_far vs w).next) ⊎ (turn_end (at_turn so_far vs w) w ≤ (at_turn so_far vs v).next))
+  ranges so_far [] distinct v w m k = absurd (omega (arith, m.1))
+  ranges so_far (u ∷ vs) distinct v w m k =
+      ⊎_elim
+      (λ a. ⊎_elim
+      (λ b. inl (sym a ∙ b))
+      (λ b. inr (inl (first_before so_far u vs v w a distinct.0 b)))
+      (cons_cases u vs w k))
+      (λ a. ⊎_elim
+      (λ b. inr (inr (first_before so_far u vs w v b distinct.0 a)))
+      (λ b.
+      let one = sym (later_turn so_far u vs v distinct.0 a) in
+      let two = sym (later_turn so_far u vs w distinct.0 b) in
+      subst (λ (n : Numbering). (v ≡ w) ⊎ ((turn_end n v ≤ (at_turn so_far (u ∷ vs) w).next) ⊎ (turn_end (at_turn so_far (u ∷ vs) w) w ≤ n.next))) one
+      (subst (λ (n : Numbering). (v ≡ w) ⊎ ((turn_end (at_turn (with_variable s so_far u) vs v) v ≤ n.next) ⊎ (turn_end n w ≤ (at_turn (with_variable s so_far u) vs v).next))) two
+      (ranges (with_variable s so_far u) vs distinct.1 v w a b)))
+      (cons_cases u vs w k))
+      (cons_cases u vs v m)
 
 -- what is said of the elements of a variable, bound or new
 pub record IsBoundIn (groups : List Group) (e : Element) : Type 0 where

@@ -1,5 +1,5 @@
 -- What the steps of a CONSTRUCT come to together.
-use Rattle.std.proofs.Common.{◌≡◌, ℕ, ◌+◌, ◌≤◌, List, map, Some, None, ap, ◌∙◌, subst}
+use Rattle.std.proofs.Common.{◌≡◌, ℕ, ◌+◌, ◌≤◌, List, map, Option, Some, None, Result, Ok, Err, ap, sym, ◌∙◌, subst}
 use Rattle.gc_build_descriptions.specs.Described.{described_variable}
 use Rattle.gc_build_descriptions.specs.Faults.{first_fault}
 use Rattle.gc_build_descriptions.specs.declared.described.Described.{Described}
@@ -10,7 +10,12 @@ use Rattle.gc_build_recipe.specs.Recipes.{Recipe}
 use Rattle.gc_spec.specs.PropertyGraph.{PropertyGraph}
 use Rattle.gc_build.specs.AllPaths.{Patterns}
 use Rattle.gc_build.specs.Claimed.{AreClaims}
-use Rattle.gc_build.specs.Constructed.{IsAfter, IsBuilt, IsSound, IsUnfit, IsUnited, making, making_by}
+use Rattle.gc_build.specs.Constructed.{Constructs, ConstructsWhole, IsAfter, IsBuilt, IsDue, IsRefusal, IsSound, IsUnfit, making, making_by}
+use Rattle.gc_build.specs.declared.built.Built.{Built}
+use Rattle.gc_build.specs.declared.built.Refusal.{Refusal}
+use Rattle.gc_build.specs.declared.built.Refusal.TheVariants as refusal
+use Rattle.gc_sets.specs.Claims.{Claims, IsClaimed}
+use Rattle.std.specs.Result.{IsErr, IsErrAnd}
 use Rattle.gc_build.specs.Makings.{Making}
 
 module _ (s : Setting) (r : Recipe) (ps : Patterns) (next : ℕ) (n : Numbering) (is : n ≡ numbering s r.variables)
@@ -27,19 +32,33 @@ module _ (s : Setting) (r : Recipe) (ps : Patterns) (next : ℕ) (n : Numbering)
         ap (making_by s r next n.variables) same
         ∙ ap (λ m. making_by s r next m.variables (map (described_variable s r m.variables) r.variables)) is
 
-    pub built : (g : PropertyGraph) → IsUnited ps (making_by s r next n.variables d) r.chains r.graphs (Some g) → IsBuilt s r ps next (record { graph = g; next = after })
-    built g h = record {
+    pub due : (claims : Claims) → AreClaims ps (making_by s r next n.variables d) r.chains r.graphs claims → IsDue s r ps next claims after
+    due claims h = record {
       sound = sound;
-      claims = h.claims;
-      due = subst (λ (m : Making). AreClaims ps m r.chains r.graphs h.claims) same_making h.are;
-      graph = h.outcome;
-      after = fits.0 ∙ ap (λ m. next + m.next) is;
+      due = subst (λ (m : Making). AreClaims ps m r.chains r.graphs claims) same_making h;
+      behind = fits.0 ∙ ap (λ m. next + m.next) is;
     }
 
-    pub unfit : IsUnited ps (making_by s r next n.variables d) r.chains r.graphs None → IsUnfit s r ps next
-    unfit h = record {
-      sound = sound;
-      claims = h.claims;
-      due = subst (λ (m : Making). AreClaims ps m r.chains r.graphs h.claims) same_making h.are;
-      none = h.outcome;
-    }
+-- the graph of what is claimed, or that there is none
+module _ (s : Setting) (r : Recipe) (ps : Patterns) (next : ℕ) (claims : Claims) (after : ℕ) (h : IsDue s r ps next claims after) where
+  pub built : (g : PropertyGraph) → IsClaimed claims g → IsBuilt s r ps next (record { graph = g; next = after })
+  built g is = record { sound = h.sound; claims = claims; due = h.due; graph = is; after = h.behind }
+
+  pub unfit : ((g : PropertyGraph) → IsClaimed claims g → ⊥) → IsUnfit s r ps next
+  unfit none = record { sound = h.sound; claims = claims; due = h.due; none = none }
+
+-- a refusal is that of the whole
+pub refused : (s : Setting) (r : Recipe) (ps : Patterns) (next : ℕ) (e : Refusal) → IsRefusal s r next e → (result : Result (Option Built) Refusal) → IsErr result → IsErrAnd result (λ other. other ≡ e)
+    → Constructs s r ps next result
+refused s r ps next e h (Ok b) err same = absurd (cc err)
+refused s r ps next e h (Err other) err same = subst (λ (x : Refusal). Constructs s r ps next (Err x)) (sym same) (by e h)
+  where
+    by : (e : Refusal) → IsRefusal s r next e → Constructs s r ps next (Err e)
+    by (refusal.Fault f) k = k
+    by (refusal.IdsSpent count) k = k
+    by refusal.Memory k = tt
+
+pub refused_whole : (s : Setting) (r : Recipe) (ps : Patterns) (next : ℕ) (e : Refusal) → IsRefusal s r next e → (result : Result Built Refusal) → IsErr result → IsErrAnd result (λ other. other ≡ e)
+    → ConstructsWhole s r ps next result
+refused_whole s r ps next e h (Ok b) err same = absurd (cc err)
+refused_whole s r ps next e h (Err other) err same = subst (λ (x : Refusal). IsRefusal s r next x) (sym same) h

@@ -10,9 +10,9 @@ use Rattle.gc_build_descriptions.specs.declared.fault.Fault.{Fault}
 use Rattle.gc_build_numbers.specs.Numbers.{numbering}
 use Rattle.gc_build_numbers.specs.Settings.{Setting}
 use Rattle.gc_build_numbers.specs.declared.numbered.Numbered.{Numbered}
-use Rattle.gc_build_recipe.specs.Recipes.{Chain, Recipe}
+use Rattle.gc_build_recipe.specs.Recipes.{Recipe}
 use Rattle.gc_spec.specs.PropertyGraph.{PropertyGraph}
-use Rattle.gc_sets.specs.Claims.{Claims, IsClaimed, IsOutcome}
+use Rattle.gc_sets.specs.Claims.{Claims, IsClaimed}
 use Rattle.gc_build.specs.declared.built.Built.{Built}
 use Rattle.gc_build.specs.declared.built.Refusal.{Refusal}
 use Rattle.gc_build.specs.declared.built.Refusal.TheVariants as refusal
@@ -81,8 +81,18 @@ Constructs s r ps next (Err (refusal.Fault f)) = fault s r ≡ Some f
 Constructs s r ps next (Err (refusal.IdsSpent count)) = IsSpent s r next count
 Constructs s r ps next (Err refusal.Memory) = ⊤
 
--- the graph of what is claimed, or that there is none
-pub record IsUnited (ps : Patterns) (m : Making) (chains : List Chain) (graphs : List ℕ) (o : Option PropertyGraph) : Type 0 where
-  pub claims : Claims
-  pub are : AreClaims ps m chains graphs claims
-  pub outcome : IsOutcome claims o
+-- what a CONSTRUCT comes to where there always is a graph
+abbrev pub IsRefusal : Setting → Recipe → (next : ℕ) → Refusal → Type 0
+IsRefusal s r next (refusal.Fault f) = fault s r ≡ Some f
+IsRefusal s r next (refusal.IdsSpent count) = IsSpent s r next count
+IsRefusal s r next refusal.Memory = ⊤
+
+abbrev pub ConstructsWhole : Setting → Recipe → Patterns → (next : ℕ) → Result Built Refusal → Type 0
+ConstructsWhole s r ps next (Ok b) = IsBuilt s r ps next b
+ConstructsWhole s r ps next (Err refused) = IsRefusal s r next refused
+
+-- all that is claimed, and the identity behind the new ones
+pub record IsDue (s : Setting) (r : Recipe) (ps : Patterns) (next : ℕ) (claims : Claims) (after : ℕ) : Type 0 where
+  pub sound : IsSound s r next
+  pub due : AreDue s r ps next claims
+  pub behind : after ≡ next + needed s r

@@ -1,10 +1,10 @@
-ghost use Rattle.std.specs.Prelude.{◌≡◌, IfOk, IfSome};
+ghost use Rattle.std.specs.Prelude.{◌≡◌, IfErr, IfOk, IfSome};
 ghost use Rattle.gc_alg.specs.Views.{block_tree};
 ghost use Rattle.gc_walks.specs.Databases.{AreOnGraphs};
 ghost use Rattle.gc_build.specs.AllPaths.{AreReady, AreSearchable};
 ghost use Rattle.gc_build.specs.Claimed.{AreClaims, seen};
-ghost use Rattle.gc_build.specs.Constructed.{Constructs, IsAfter, IsUnited, making_by};
-ghost use Rattle.gc_build.specs.Fitting.{Fits};
+ghost use Rattle.gc_build.specs.Constructed.{Constructs, ConstructsWhole, IsAfter, IsDue, IsRefusal, making_by};
+ghost use Rattle.gc_build.specs.Fitting.{Fits, FitsWhole};
 ghost use Rattle.gc_build.specs.Patterns.{plain};
 ghost use Rattle.gc_sets.specs.Origins.{ComesFrom};
 
@@ -18,9 +18,8 @@ use gc_base::{Memory, Steps};
 use gc_build_descriptions::{DescribedList, Refusal as DescribeRefusal, describe};
 use gc_build_numbers::{Numbering, Setting, number};
 use gc_build_recipe::Recipe;
-use gc_ppg::Graph;
 use gc_prod::SegmentTable;
-use gc_sets::unite;
+use gc_sets::{unite, unite_agreed};
 use std::sync::ledger::Ledger;
 
 // One more than the largest identity.
@@ -64,6 +63,66 @@ pub(crate) fn constructed<L: Ledger>(
     ensures { Constructs setting.now recipe.now (record { block = block_tree block.now; segments = segments.now }) next result }
 {
     let patterns = Patterns { block, segments };
+    let told = all_due(setting, recipe, &patterns, next, steps)?;
+    let next = told.after;
+    match unite(
+        setting.alloc,
+        told.claims.nodes,
+        told.claims.edges,
+        told.claims.paths,
+    )? {
+        None => Ok(None),
+        Some(graph) => Ok(Some(Built { graph, next })),
+    }
+}
+
+/// The graph that a CONSTRUCT makes of a table which its recipe fits whole, and the identity that comes next.
+/// There always is one, so it is refused as `Fault` or as `IdsSpent` alone, where `construct` is.
+pub fn construct_whole<L: Ledger>(
+    setting: &Setting<'_>,
+    recipe: &Recipe,
+    block: &Block,
+    segments: &SegmentTable,
+    next: u64,
+    steps: &mut Steps<L>,
+) -> Result<Built, Refusal>
+    requires segments { AreOnGraphs setting.now.graphs segments.now }
+    requires searchable { AreSearchable (block_tree block.now) }
+    requires whole { FitsWhole setting.now recipe.now (record { block = block_tree block.now; segments = segments.now }) next }
+    ensures made { ConstructsWhole setting.now recipe.now (record { block = block_tree block.now; segments = segments.now }) next result }
+    ensures comes { IfOk result (λ b. ComesFrom setting.now.graphs next b.next b.graph) }
+{
+    let patterns = Patterns { block, segments };
+    let told = all_due(setting, recipe, &patterns, next, steps)?;
+    let next = told.after;
+    let graph = unite_agreed(
+        setting.alloc,
+        told.claims.nodes,
+        told.claims.edges,
+        told.claims.paths,
+    )?;
+    Ok(Built { graph, next })
+}
+
+// What is claimed, and the identity behind the new ones.
+#[derive(Drop)]
+struct Due {
+    claims: Claims,
+    after: u64,
+}
+
+// All that is claimed, or why nothing is made.
+fn all_due<L: Ledger>(
+    setting: &Setting<'_>,
+    recipe: &Recipe,
+    patterns: &Patterns<'_>,
+    next: u64,
+    steps: &mut Steps<L>,
+) -> Result<Due, Refusal>
+    requires { AreReady setting.now.graphs (plain patterns.now) }
+    ensures claimed { IfOk result (λ d. IsDue setting.now recipe.now (plain patterns.now) next (seen d.claims) d.after) }
+    ensures refused { IfErr result (IsRefusal setting.now recipe.now next) }
+{
     let numbering = number(setting, recipe.variables.as_slice(), steps)?;
     let described = match describe(setting, recipe, &numbering, steps) {
         Ok(described) => described,
@@ -73,12 +132,10 @@ pub(crate) fn constructed<L: Ledger>(
     let Some(after) = after(next, numbering.next) else {
         return Err(Refusal::IdsSpent(numbering.next));
     };
-    match united(
-        setting, recipe, &patterns, &numbering, &described, next, steps,
-    )? {
-        None => Ok(None),
-        Some(graph) => Ok(Some(Built { graph, next: after })),
-    }
+    let claims = claimed(
+        setting, recipe, patterns, &numbering, &described, next, steps,
+    )?;
+    Ok(Due { claims, after })
 }
 
 // The identity behind so many new ones, if there are so many.
@@ -90,24 +147,6 @@ fn after(next: u64, needed: u64) -> Option<u64>
         return None;
     }
     Some(after)
-}
-
-// The graph of what is claimed, if there is one.
-fn united<L: Ledger>(
-    setting: &Setting<'_>,
-    recipe: &Recipe,
-    patterns: &Patterns<'_>,
-    numbering: &Numbering,
-    described: &DescribedList,
-    next: u64,
-    steps: &mut Steps<L>,
-) -> Result<Option<Graph>, Memory>
-    requires { AreReady setting.now.graphs (plain patterns.now) }
-    ensures { IfOk result (IsUnited (plain patterns.now) (making_by setting.now recipe.now next numbering.now.variables described.now)
-        recipe.now.chains recipe.now.graphs) }
-{
-    let claims = claimed(setting, recipe, patterns, numbering, described, next, steps)?;
-    unite(setting.alloc, claims.nodes, claims.edges, claims.paths)
 }
 
 // What is claimed.

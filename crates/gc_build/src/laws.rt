@@ -3,13 +3,15 @@ ghost use Rattle.std.specs.List.{AllByRecursion};
 ghost use Rattle.gc_alg.specs.Tables.{IsTableOfBlock};
 ghost use Rattle.gc_alg.specs.Trees.{ABlock, Tree};
 ghost use Rattle.gc_build.specs.AllPaths.{Patterns};
-ghost use Rattle.gc_build.specs.Constructed.{IsBuilt};
-ghost use Rattle.gc_build.specs.Fitting.{BindsNodes, Fits};
+ghost use Rattle.gc_build.specs.Constructed.{AreDue, IsBuilt};
+ghost use Rattle.gc_build.specs.Fitting.{BindsNodes, Fits, FitsWhole};
 ghost use Rattle.gc_build.specs.declared.built.Built.{Built};
 ghost use Rattle.gc_build_numbers.specs.Settings.{Setting};
 ghost use Rattle.gc_build_recipe.specs.Recipes.{Recipe};
 ghost use Rattle.gc_prod.specs.Segments.{Segments};
 ghost use Rattle.gc_rows.specs.Tables.{Relation};
+ghost use Rattle.gc_sets.specs.Agreed.{AreOfOneGraph};
+ghost use Rattle.gc_sets.specs.Claims.{Claims};
 ghost use Rattle.gc_sets.specs.Origins.{ComesFrom};
 ghost use Rattle.gc_spec.specs.PropertyGraph.{IsGraph, PropertyGraph};
 ghost use Rattle.gc_walks.specs.Databases.{AreOnGraphs, database};
@@ -27,4 +29,11 @@ pub fn the_rows_of_a_block_bind_nodes_of_its_graphs()
 pub fn what_is_built_comes_from_the_graphs()
     ensures { (s : Setting) (r : Recipe) (ps : Patterns) (next : ℕ) (b : Built) → Fits s r → IsBuilt s r ps next b
         → ComesFrom s.graphs next b.next b.graph }
+{}
+
+/// What is claimed on a table that the recipe fits is of one graph: an identity is claimed as one kind with one
+/// shape, the ends of each edge are claimed, and so is what the walk of each stored path goes along.
+pub fn what_is_claimed_where_a_recipe_fits_is_of_one_graph()
+    ensures { (s : Setting) (r : Recipe) (ps : Patterns) (next : ℕ) (c : Claims) → FitsWhole s r ps next → AreOnGraphs s.graphs ps.segments
+        → AreDue s r ps next c → AreOfOneGraph c }
 {}

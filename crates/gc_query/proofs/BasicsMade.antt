@@ -1,5 +1,5 @@
 -- What a CONSTRUCT comes to, by the segments that its MATCH uses, its table, its recipe and what is made of them.
-use Rattle.std.proofs.Common.{◌≡◌, ℕ, List, [], Option, Some, None, Result, Ok, Err, refl, sym, ap, subst, arith}
+use Rattle.std.proofs.Common.{◌≡◌, ℕ, List, [], Option, Some, None, IfOk, IfSome, Result, Ok, Err, refl, sym, ap, subst, arith}
 use Rattle.gc_ast.specs.QueryViews.{basic_tree}
 use Rattle.gc_ast.specs.declared.query.Basic.{Basic, out-Basic}
 use Rattle.gc_alg.specs.Tables.{IsTableOfBlock}
@@ -23,7 +23,9 @@ use Rattle.gc_lower.specs.Scopes.{Scope}
 use Rattle.gc_lower.proofs.TreeParts.{basic_parts}
 use Rattle.gc_prod.specs.Segments.{Segments}
 use Rattle.gc_rows.specs.Tables.{Relation}
-use Rattle.gc_query.specs.Answered.{IsAnswered, Rises, outcome_of}
+use Rattle.gc_sets.specs.Origins.{ComesFrom}
+use Rattle.gc_spec.specs.PropertyGraph.{PropertyGraph}
+use Rattle.gc_query.specs.Answered.{ComesOf, IsAnswered, Rises, outcome_of}
 use Rattle.gc_query.specs.Basics.{Comes, ComesTo, DenotesBasic, OnTable, WithCosts, token_of}
 use Rattle.gc_query.specs.Costs.{costs_of, first_past}
 use Rattle.gc_query.specs.Segments.{HasSegments}
@@ -41,6 +43,15 @@ comes s r ps next token (Ok None) h = h
 comes s r ps next token (Err (build.Fault f)) h = h
 comes s r ps next token (Err (build.IdsSpent count)) h = (refl, h)
 comes s r ps next token (Err build.Memory) h = tt
+
+-- and so it comes from the graphs
+pub comes_of : (graphs : List PropertyGraph) (next token : ℕ) (outcome : Result (Option Built) Refusal)
+    → IfOk outcome (λ made. IfSome made (λ (b : Built). ComesFrom graphs next b.next b.graph)) → ComesOf graphs next (outcome_of token outcome)
+comes_of graphs next token (Ok (Some b)) h = h
+comes_of graphs next token (Ok None) h = tt
+comes_of graphs next token (Err (build.Fault f)) h = tt
+comes_of graphs next token (Err (build.IdsSpent count)) h = tt
+comes_of graphs next token (Err build.Memory) h = tt
 
 -- after it the next identity is no less, and at most one more than the largest
 pub rises : (s : Setting) (r : Recipe) (ps : Patterns) (next token : ℕ) (outcome : Result (Option Built) Refusal) → Constructs s r ps next outcome → Rises next (outcome_of token outcome)

@@ -2,8 +2,7 @@
 use Rattle.std.proofs.Common.{◌≡◌, Result, Ok, Err, refl, sym, subst}
 use Rattle.gc_ast.specs.Trees.{Tree, AFormula, AHead, APattern, AQuery, RowOf, Named, PathHead, GraphHead, none, more}
 use Rattle.gc_lower.specs.Scopes.{Scope}
-use Rattle.gc_query.specs.Queries.{Denotes, Heads, stood}
-use Rattle.gc_query.specs.Outcomes.{Then}
+use Rattle.gc_query.specs.Queries.{Denotes, Heads, with_made}
 use Rattle.gc_query.specs.Standings.{Standing, Made}
 use Rattle.gc_query.specs.declared.fault.Fault.{Fault}
 
@@ -28,14 +27,10 @@ module _ (s : Scope) where
   names_view at name chains filter cost = refl
 
   -- a head that names the graph of a query, and one whose query has a fault
-  pub names_graph : (at : Standing) (name : Named) (query : Tree AQuery) (made : Made) (under : Result Standing Fault) → Denotes s at query (Ok made) → under ≡ stood at made
+  pub names_graph : (at : Standing) (name : Named) (query : Tree AQuery) (made : Made) (under : Result Standing Fault) → Denotes s at query (Ok made) → under ≡ Ok (with_made at made)
       → Heads s at (more (GraphHead name query) none) under
   unfolding Denotes
-  names_graph at name query made under d e = (Ok made, d, by (stood at made) under e)
-    where
-      by : (stands under : Result Standing Fault) → under ≡ stands → Then stands (λ now. Heads s now none) under
-      by (Ok now) under e = e
-      by (Err fault) under e = e
+  names_graph at name query made under d e = (Ok made, d, e)
 
   pub graph_fails : (at : Standing) (name : Named) (query : Tree AQuery) (fault : Fault) → Denotes s at query (Err fault) → Heads s at (more (GraphHead name query) none) (Err fault)
   unfolding Denotes
@@ -46,19 +41,11 @@ module _ (s : Scope) where
       → Heads s at (more head later) under
   unfolding Denotes
   goes_on at now (PathHead name chains filter cost) later under h k = subst (λ st. Heads s st later under) (same_ok now at h) k
-  goes_on at now (GraphHead name query) later under (Ok made, d, t) k = (Ok made, d, by (stood at made) t)
-    where
-      by : (stands : Result Standing Fault) → Then stands (λ st. Heads s st none) (Ok now) → Then stands (λ st. Heads s st later) under
-      by (Ok st) e = subst (λ x. Heads s x later under) (same_ok now st e) k
-      by (Err fault) e = absurd (not_both now fault e)
+  goes_on at now (GraphHead name query) later under (Ok made, d, t) k = (Ok made, d, subst (λ st. Heads s st later under) (same_ok now (with_made at made) t) k)
   goes_on at now (GraphHead name query) later under (Err fault, d, t) k = absurd (not_both now fault t)
 
   pub head_fails : (at : Standing) (head : Tree AHead) (later : Tree (RowOf AHead)) (fault : Fault) → Heads s at (more head none) (Err fault) → Heads s at (more head later) (Err fault)
   unfolding Denotes
   head_fails at (PathHead name chains filter cost) later fault h = absurd (not_both at fault (sym h))
-  head_fails at (GraphHead name query) later fault (Ok made, d, t) = (Ok made, d, by (stood at made) t)
-    where
-      by : (stands : Result Standing Fault) → Then stands (λ st. Heads s st none) (Err fault) → Then stands (λ st. Heads s st later) (Err fault)
-      by (Ok st) e = absurd (not_both st fault (sym e))
-      by (Err other) e = e
+  head_fails at (GraphHead name query) later fault (Ok made, d, t) = absurd (not_both (with_made at made) fault (sym t))
   head_fails at (GraphHead name query) later fault (Err other, d, t) = (Err other, d, t)

@@ -21,12 +21,7 @@ module _ (s : Scope) (graphs : List PropertyGraph) (left : Made) where
     right_fails fault d = (Err fault, d, refl)
 
     module _ (made : Made) (d : DenotesTerm s (record { graphs = graphs; next = left.next }) term (Ok made)) where
-      -- a term whose graph does not go with what stands at its left
-      pub both_fail : (fault : Fault) → Combines op left.graph made (Err fault) → Joined s graphs left (more (NextTerm op term) later) (Err fault)
-      unfolding Denotes
-      both_fail fault c = (Ok made, d, (Err fault, c, refl))
-
       -- a term that is combined, before those behind it
-      pub one_more : (both : Made) (outcome : Result Made Fault) → Combines op left.graph made (Ok both) → Joined s graphs both later outcome → Joined s graphs left (more (NextTerm op term) later) outcome
+      pub one_more : (both : Made) (outcome : Result Made Fault) → Combines op left.graph made both → Joined s graphs both later outcome → Joined s graphs left (more (NextTerm op term) later) outcome
       unfolding Denotes
-      one_more both outcome c j = (Ok made, d, (Ok both, c, j))
+      one_more both outcome c j = (Ok made, d, (both, c, j))

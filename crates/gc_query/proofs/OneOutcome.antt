@@ -19,8 +19,7 @@ use Rattle.gc_prod.specs.Segments.{Segments}
 use Rattle.gc_sets.specs.Claims.{IsClaimed}
 use Rattle.gc_query.specs.Basics.{Comes, ComesTo, DenotesBasic, OnTable, OverSegments, WithCosts, asked_of, patterns_of, read_on, token_of}
 use Rattle.gc_query.specs.Costs.{costs_of, first_past}
-use Rattle.gc_query.specs.Queries.{Combines, Denotes, DenotesTerm, Heads, Joined, Terms, stood}
-use Rattle.gc_query.specs.Outcomes.{Then}
+use Rattle.gc_query.specs.Queries.{Combines, Denotes, DenotesTerm, Heads, Joined, Terms, with_made}
 use Rattle.gc_query.specs.Sessions.{Answer, Answers, AnswersAsk, AnswersView}
 use Rattle.gc_query.specs.Standings.{Standing, Made}
 use Rattle.gc_query.specs.declared.fault.Fault.{Fault}
@@ -105,25 +104,13 @@ one_basic s at basic a b p q =
     (λ segments c d h k. one_over s at basic segments c d h k) p.comes q.comes
 
 -- two graphs are combined to one
-one_combined : (o : SetOp) (left : PropertyGraph) (right : Made) (a b : Result Made Fault) → Combines o left right a → Combines o left right b → a ≡ b
-one_combined op.Union left right (Ok a) (Ok b) p q = same_made a b (one_union left right.graph a.graph b.graph p.1 q.1) (p.2 ∙ sym q.2)
-one_combined op.Intersect left right (Ok a) (Ok b) p q = same_made a b (one_intersection left right.graph a.graph b.graph p.1 q.1) (p.2 ∙ sym q.2)
-one_combined op.Minus left right (Ok a) (Ok b) p q = same_made a b (p.1 ∙ sym q.1) (p.2 ∙ sym q.2)
-one_combined o left right (Ok a) (Err NoGraph) p q = let d = p.0 in absurd (cc)
-one_combined o left right (Err NoGraph) (Ok b) p q = let d = q.0 in absurd (cc)
-one_combined o left right (Err NoGraph) (Err NoGraph) p q = refl
-one_combined o left right (Ok a) (Err (Undefined at row why)) p q = absurd q
-one_combined o left right (Ok a) (Err (IdsSpent at needed)) p q = absurd q
-one_combined o left right (Err NoGraph) (Err (Undefined at row why)) p q = absurd q
-one_combined o left right (Err NoGraph) (Err (IdsSpent at needed)) p q = absurd q
-one_combined o left right (Ok a) (Err (BadCost at walk)) p q = absurd q
-one_combined o left right (Ok a) (Err (CostPastRange at row)) p q = absurd q
-one_combined o left right (Err NoGraph) (Err (BadCost at walk)) p q = absurd q
-one_combined o left right (Err NoGraph) (Err (CostPastRange at row)) p q = absurd q
-one_combined o left right (Err (BadCost at walk)) b p q = absurd p
-one_combined o left right (Err (CostPastRange at row)) b p q = absurd p
-one_combined o left right (Err (Undefined at row why)) b p q = absurd p
-one_combined o left right (Err (IdsSpent at needed)) b p q = absurd p
+one_graph : (a b : Made) → a.graph ≡ b.graph → a.next ≡ b.next → a ≡ b
+one_graph a b g n = λ i. record { graph = g i; next = n i }
+
+one_combined : (o : SetOp) (left : PropertyGraph) (right a b : Made) → Combines o left right a → Combines o left right b → a ≡ b
+one_combined op.Union left right a b p q = one_graph a b (one_union left right.graph a.graph b.graph p.combined q.combined) (p.behind ∙ sym q.behind)
+one_combined op.Intersect left right a b p q = one_graph a b (one_intersection left right.graph a.graph b.graph p.combined q.combined) (p.behind ∙ sym q.behind)
+one_combined op.Minus left right a b p q = one_graph a b (p.combined ∙ sym q.combined) (p.behind ∙ sym q.behind)
 
 mutual
   unfolding Denotes
@@ -137,8 +124,7 @@ mutual
   one_under s at none a b p q = p ∙ sym q
   one_under s at (more (PathHead name chains filter cost) heads) a b p q = one_under s at heads a b p q
   one_under s at (more (GraphHead name query) heads) a b p q =
-      one_then p.0 q.0 (λ made stands. Then (stood at made) (λ now. Heads s now heads) stands) a b (one_outcome s at query p.0 q.0 p.1 q.1)
-      (λ made c d h k. one_then (stood at made) (stood at made) (λ now. Heads s now heads) c d refl (λ now x y f g. one_under s now heads x y f g) h k) p.2 q.2
+      one_then p.0 q.0 (λ made. Heads s (with_made at made) heads) a b (one_outcome s at query p.0 q.0 p.1 q.1) (λ made c d h k. one_under s (with_made at made) heads c d h k) p.2 q.2
 
   one_term : (s : Scope) (at : Standing) (term : Tree ATerm) (a b : Result Made Fault) → DenotesTerm s at term a → DenotesTerm s at term b → a ≡ b
   one_term s at (BasicTerm basic) a b p q = one_basic s at basic a b p q
@@ -148,9 +134,9 @@ mutual
   one_joined : (s : Scope) (graphs : _) (left : Made) (rest : Tree (RowOf ANextTerm)) (a b : Result Made Fault) → Joined s graphs left rest a → Joined s graphs left rest b → a ≡ b
   one_joined s graphs left none a b p q = p ∙ sym q
   one_joined s graphs left (more (NextTerm o term) later) a b p q =
-      one_then p.0 q.0 (λ made whole. (both : Result Made Fault) × Combines o left.graph made both × Then both (λ joined. Joined s graphs joined later) whole) a b
+      one_then p.0 q.0 (λ made whole. (both : Made) × Combines o left.graph made both × Joined s graphs both later whole) a b
       (one_term s (record { graphs = graphs; next = left.next }) term p.0 q.0 p.1 q.1)
-      (λ made c d h k. one_then h.0 k.0 (λ joined. Joined s graphs joined later) c d (one_combined o left.graph made h.0 k.0 h.1 k.1) (λ joined x y f g. one_joined s graphs joined later x y f g) h.2 k.2) p.2 q.2
+      (λ made c d h k. one_joined s graphs h.0 later c d h.2 (subst (λ (m : Made). Joined s graphs m later d) (sym (one_combined o left.graph made h.0 k.0 h.1 k.1)) k.2)) p.2 q.2
 
 -- a statement comes to one answer
 pub one_answer : (s : Scope) (at : Standing) (statement : Tree AStatement) (a b : Answer) → Answers s at statement a → Answers s at statement b → a ≡ b
@@ -159,8 +145,8 @@ one_answer s at (Ask query) a b p q = by p.0 a b p.2 (subst (λ o. AnswersAsk o 
     by : (o : Result Made Fault) (x y : Answer) → AnswersAsk o x → AnswersAsk o y → x ≡ y
     by (Ok made) x y h k = h ∙ sym k
     by (Err fault) x y h k = h ∙ sym k
-one_answer s at (View name query) a b p q = by p.0 a b p.2 (subst (λ o. AnswersView at o b) (sym (one_outcome s at query p.0 q.0 p.1 q.1)) q.2)
+one_answer s at (View name query) a b p q = by p.0 a b p.2 (subst (λ o. AnswersView o b) (sym (one_outcome s at query p.0 q.0 p.1 q.1)) q.2)
   where
-    by : (o : Result Made Fault) (x y : Answer) → AnswersView at o x → AnswersView at o y → x ≡ y
+    by : (o : Result Made Fault) (x y : Answer) → AnswersView o x → AnswersView o y → x ≡ y
     by (Ok made) x y h k = h ∙ sym k
     by (Err fault) x y h k = h ∙ sym k

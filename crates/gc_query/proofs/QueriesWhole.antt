@@ -17,7 +17,7 @@ use Rattle.gc_query.specs.Standings.{Standing, Made}
 use Rattle.gc_query.specs.declared.fault.Fault.{Fault}
 use Rattle.gc_spec.specs.PropertyGraph.{PropertyGraph}
 use Rattle.gc_query.proofs.BuiltRests.{next_row}
-use Rattle.gc_query.proofs.Joining.{both_fail, one_more, right_fails}
+use Rattle.gc_query.proofs.Joining.{one_more, right_fails}
 
 module _ (s : Scope) where
   -- terms, by the first and those behind it
@@ -58,13 +58,10 @@ module _ (s : Scope) where
           → Joined s graphs left (tree.more (tree.NextTerm (out-NextTerm x).op (term_tree names (out-NextTerm x).term)) (row (map (next_term_tree names) (drop (i + 1) rest)))) outcome → LeftComes outcome
       by_row outcome j = subst (λ rows. Joined s graphs left rows outcome) (sym (next_row s names rest i x at)) j
 
-      -- a term with a fault; one that does not go with what stands at its left; and one that is combined with it
+      -- a term with a fault, and one that is combined with what stands at its left
       pub term_fails : (fault : Fault) → NextComes (Err fault) → LeftComes (Err fault)
       term_fails fault d = by_row (Err fault) (right_fails s graphs left (out-NextTerm x).op _ _ fault d)
 
-      pub joining_fails : (made : Made) → NextComes (Ok made) → (fault : Fault) → Combines (out-NextTerm x).op left.graph made (Err fault) → LeftComes (Err fault)
-      joining_fails made d fault c = by_row (Err fault) (both_fail s graphs left (out-NextTerm x).op _ _ made d fault c)
-
-      pub joins : (made : Made) → NextComes (Ok made) → (both : Made) → Combines (out-NextTerm x).op left.graph made (Ok both) → (outcome : Result Made Fault)
+      pub joins : (made : Made) → NextComes (Ok made) → (both : Made) → Combines (out-NextTerm x).op left.graph made both → (outcome : Result Made Fault)
           → Joined s graphs both (row (map (next_term_tree names) (drop (i + 1) rest))) outcome → LeftComes outcome
       joins made d both c outcome j = by_row outcome (one_more s graphs left (out-NextTerm x).op _ _ made d both outcome c j)

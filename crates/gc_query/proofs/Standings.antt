@@ -1,53 +1,112 @@
 -- What stands with a graph more.
-use Rattle.std.proofs.Common.{◌≡◌, ◌≤◌, ℕ, zero, suc, ◌+◌, Bool, true, false, ◌&&◌, nat_le, List, [], ◌∷◌, ◌++◌, length, take, map, drop, None, Some, Result, Ok, Err, if◌then◌else◌, refl, sym, ap, ◌∙◌, subst, arith, slice_get}
-use Rattle.std.proofs.lemmas.Bool.Decides.{nat_tests}
+use Rattle.std.proofs.Common.{◌≡◌, ⊎_elim, ◌<◌, ◌≤◌, ◌==◌, ℕ, zero, suc, true, false, cond, List, [], ◌∷◌, ◌++◌, length, take, map, find, Option, None, Some, refl, sym, ap, ◌∙◌, subst, arith}
+use Rattle.std.proofs.lemmas.Bool.{eq-eqb, eqb-true}
 use Rattle.std.proofs.lemmas.List.{length-append}
-use Rattle.std.specs.List.{AllByRecursion}
-use Rattle.gc_catalog.specs.NamedGraphs.{NamedGraphs, AreBelow, first_graphs, with_local}
-use Rattle.gc_ppg.specs.FreeIds.{first_free}
-use Rattle.gc_ppg.proofs.Agreement.{coherent_with_each}
-use Rattle.gc_ppg.proofs.FreeIds.{below_above}
-use Rattle.gc_spec.specs.Coherence.{AreCoherent}
-use Rattle.gc_spec.specs.PropertyGraph.{PropertyGraph, ids_of}
+use Rattle.std.proofs.lemmas.List.Elements.{Contains-append_cases, Contains-append_left, Contains-append_right}
+use Rattle.std.specs.List.{AllByRecursion, Contains}
+use Rattle.std.specs.Map.{lookup}
+use Rattle.gc_catalog.specs.NamedGraphs.{NamedGraphs, AllCoherent, AreBelow, IsCatalog, first_graphs, with_local}
+use Rattle.gc_rows.proofs.Members.{cons_cases, contains_here, contains_later, each_member, from_map, of_member, to_map}
+use Rattle.gc_sets.specs.Origins.{AreStanding, ComesFrom}
+use Rattle.gc_sets.proofs.Itself.{coherent_with_itself}
+use Rattle.gc_sets.proofs.OriginLaws.{stands_behind}
+use Rattle.gc_sets.proofs.ShapesOf.{Of, edge_key, node_key, of_edge, of_node, of_path, of_shape, path_key}
+use Rattle.gc_spec.specs.Coherence.{AreCoherent, AreSame, ElementShape, NodeShape, EdgeShape, PathShape, shape_at, shapes_of}
+use Rattle.gc_spec.specs.PropertyGraph.{PropertyGraph, Node, Edge, Path, edge_ids, ids_of, node_ids, path_ids}
 use Rattle.gc_query.specs.Answered.{IsLonger}
-use Rattle.gc_query.specs.Queries.{agrees_with, fits, stood, with_made}
-use Rattle.gc_query.specs.Standings.{Standing, Made}
-use Rattle.gc_query.specs.declared.fault.Fault.{Fault}
-use Rattle.gc_query.specs.declared.fault.Fault.TheVariants.{NoGraph}
-use Rattle.gc_query.proofs.AllOf.{drop_at}
 
-left_of : (a b : Bool) → (a && b) ≡ true → a ≡ true
-left_of true b h = refl
-left_of false b h = cc
+-- an identity that is among those of a graph stands for something there
+shape_there : (shapes : List (ℕ × ElementShape)) (id : ℕ) → Contains (map (λ e. e.0) shapes) id → (s : ElementShape) × (lookup (λ other. other == id) shapes ≡ Some s)
+shape_there [] id m = absurd (omega (arith, m.1))
+shape_there (e ∷ shapes) id m =
+    elim (e.0 == id) as (λ t. (e.0 == id) ≡ t → (s : ElementShape) × (cond t (Some e.1) (lookup (λ other. other == id) shapes) ≡ Some s)) [
+      | true ↦ λ h. (e.1, refl)
+      | false ↦ λ h. ⊎_elim (λ same. absurd (cc (h, eq-eqb e.0 id same))) (λ behind. shape_there shapes id behind) (cons_cases e.0 (map (λ e. e.0) shapes) id m)
+    ] refl
 
-right_of : (a b : Bool) → (a && b) ≡ true → b ≡ true
-right_of true b h = h
-right_of false b h = cc
+-- what stands in a catalog agrees, and is below the next identity
+found_among : {X : Type 0} (key : X → ℕ) (xs : List X) (q : ℕ) (x : X) → find (λ y. key y == q) xs ≡ Some x → Contains (map key xs) q
+found_among key [] q x h = absurd (cc h)
+found_among key (y ∷ xs) q x h =
+    elim (key y == q) as (λ t. (key y == q) ≡ t → cond t (Some y) (find (λ z. key z == q) xs) ≡ Some x → Contains (key y ∷ map key xs) q) [
+      | true ↦ λ e k. subst (Contains (key y ∷ map key xs)) (eqb-true (key y) q e) (contains_here (key y) (map key xs))
+      | false ↦ λ e k. contains_later (key y) (map key xs) q (found_among key xs q x k)
+    ] refl h
 
-up_to : (m n : ℕ) → nat_le m n ≡ true → m ≤ n
-up_to m n h = grind (arith, nat_tests)
+id_there : (g : PropertyGraph) (id : ℕ) (s : ElementShape) → Of g id s → Contains (ids_of g) id
+id_there g id s (of_node f) =
+    Contains-append_left (node_ids g.nodes ++ edge_ids g.edges) (path_ids g.paths) id
+    (Contains-append_left (node_ids g.nodes) (edge_ids g.edges) id (found_among node_key g.nodes id f.element f.found))
+id_there g id s (of_edge f) =
+    Contains-append_left (node_ids g.nodes ++ edge_ids g.edges) (path_ids g.paths) id
+    (Contains-append_right (node_ids g.nodes) (edge_ids g.edges) id (found_among edge_key g.edges id f.element f.found))
+id_there g id s (of_path f) = Contains-append_right (node_ids g.nodes ++ edge_ids g.edges) (path_ids g.paths) id (found_among path_key g.paths id f.element f.found)
 
-module _ (graphs : List PropertyGraph) (next : ℕ) (made : Made) (well : fits (record { graphs = graphs; next = next }) made ≡ true) where
-  -- a graph that fits is coherent with those that stand, and its identities are below its next one
-  pub coherent : AllByRecursion (λ h. AreCoherent h made.graph) graphs
-  coherent = coherent_with_each graphs made.graph (left_of (agrees_with graphs made.graph) (nat_le (first_free made.graph) made.next) well)
+turned : (o p : Option ElementShape) → AreSame o p → AreSame p o
+turned None None h = tt
+turned None (Some s) h = tt
+turned (Some s) None h = tt
+turned (Some s) (Some t) h = sym h
 
-  pub below : AreBelow made.next made.graph
-  below = below_above 0 made.next (ids_of made.graph) (up_to (first_free made.graph) made.next (right_of (agrees_with graphs made.graph) (nat_le (first_free made.graph) made.next) well))
+all_agree : (graphs : List PropertyGraph) → AllCoherent graphs → (g h : PropertyGraph) → Contains graphs g → Contains graphs h → AreCoherent g h
+all_agree [] all g h m n = absurd (omega (arith, m.1))
+all_agree (k ∷ graphs) all g h m n =
+    ⊎_elim
+    (λ a. ⊎_elim
+    (λ b. subst (λ x. AreCoherent x h) a (subst (AreCoherent k) b (coherent_with_itself k)))
+    (λ b. subst (λ x. AreCoherent x h) a (of_member (AreCoherent k) graphs h all.0 b))
+    (cons_cases k graphs h n))
+    (λ a. ⊎_elim
+    (λ b. subst (AreCoherent g) b (λ id. turned (shape_at k id) (shape_at g id) (of_member (AreCoherent k) graphs g all.0 a id)))
+    (λ b. all_agree graphs all.1 g h a b)
+    (cons_cases k graphs h n))
+    (cons_cases k graphs g m)
 
--- whether a graph fits beside graphs that were read, as beside those that stand
-pub fits_beside : (read graphs : List PropertyGraph) (next : ℕ) (made : Made) → read ≡ graphs → (told : Bool) → told ≡ fits (record { graphs = read; next = next }) made → told ≡ fits (record { graphs = graphs; next = next }) made
-fits_beside read graphs next made same told is = is ∙ ap (λ (gs : List PropertyGraph). fits (record { graphs = gs; next = next }) made) same
+pub stands : (c : NamedGraphs) → IsCatalog c → AreStanding c.graphs c.next
+stands c is = record {
+  coherent = all_agree c.graphs is.coherent;
+  below = λ g m id s t. of_member (λ k. k < c.next) (ids_of g) id (of_member (AreBelow c.next) c.graphs g is.below m) (id_there g id s (of_shape g id s t));
+}
 
--- what stands with a graph that fits, and with one that does not
-abbrev stands_if : Standing → Made → Bool → Result Standing Fault
-stands_if at made t = if t then Ok (with_made at made) else Err NoGraph
+-- each identity of a graph has a shape
+entry_there : (g : PropertyGraph) (id : ℕ) → Contains (ids_of g) id → Contains (map (λ (e : ℕ × ElementShape). e.0) (shapes_of g)) id
+entry_there g id m =
+    let ns = map (λ (n : Node). (n.id, NodeShape)) g.nodes in
+    let es = map (λ (e : Edge). (e.id, EdgeShape e.from e.to)) g.edges in
+    let ps = map (λ (p : Path). (p.id, PathShape p.walk)) g.paths in
+    let first : (e : ℕ × ElementShape) → Contains (shapes_of g) e → Contains (map (λ (e : ℕ × ElementShape). e.0) (shapes_of g)) e.0 = to_map (λ (e : ℕ × ElementShape). e.0) (shapes_of g) in
+    let all : ℕ → Type 0 = Contains (map (λ (e : ℕ × ElementShape). e.0) (shapes_of g)) in
+    ⊎_elim
+    (λ k. ⊎_elim
+    (λ n.
+    let from = from_map (λ (n : Node). n.id) g.nodes id n in
+    subst all (sym from.2) (first (from.0.id, NodeShape) (Contains-append_left (ns ++ es) ps (from.0.id, NodeShape) (Contains-append_left ns es (from.0.id, NodeShape) (to_map (λ (n : Node). (n.id, NodeShape)) g.nodes from.0 from.1)))))
+    (λ n.
+    let from = from_map (λ (e : Edge). e.id) g.edges id n in
+    let entry : ℕ × ElementShape = (from.0.id, EdgeShape from.0.from from.0.to) in
+    subst all (sym from.2) (first entry (Contains-append_left (ns ++ es) ps entry (Contains-append_right ns es entry (to_map (λ (e : Edge). (e.id, EdgeShape e.from e.to)) g.edges from.0 from.1)))))
+    (Contains-append_cases (node_ids g.nodes) (edge_ids g.edges) id k))
+    (λ n.
+    let from = from_map (λ (p : Path). p.id) g.paths id n in
+    let entry : ℕ × ElementShape = (from.0.id, PathShape from.0.walk) in
+    subst all (sym from.2) (first entry (Contains-append_right (ns ++ es) ps entry (to_map (λ (p : Path). (p.id, PathShape p.walk)) g.paths from.0 from.1))))
+    (Contains-append_cases (node_ids g.nodes ++ edge_ids g.edges) (path_ids g.paths) id m)
 
-pub stands : (at : Standing) (made : Made) → fits at made ≡ true → stands_if at made true ≡ stood at made
-stands at made h = sym (ap (stands_if at made) h)
+module _ (c : NamedGraphs) (is : IsCatalog c) (after : ℕ) (up : c.next ≤ after) (g : PropertyGraph) (comes : ComesFrom c.graphs c.next after g) where
+  stand : AreStanding (c.graphs ++ g ∷ []) after
+  stand = stands_behind c.graphs c.next (stands c is) after up g comes
 
-pub stands_not : (at : Standing) (made : Made) → fits at made ≡ false → stands_if at made false ≡ stood at made
-stands_not at made h = sym (ap (stands_if at made) h)
+  last : Contains (c.graphs ++ g ∷ []) g
+  last = Contains-append_right c.graphs (g ∷ []) g (contains_here g [])
+
+  -- a graph that comes from those of a catalog is coherent with them, and its identities are below its next one
+  pub coherent : AllByRecursion (λ h. AreCoherent h g) c.graphs
+  coherent = each_member (λ h. AreCoherent h g) c.graphs (λ h m. stand.coherent h g (Contains-append_left c.graphs (g ∷ []) h m) last)
+
+  pub below : AreBelow after g
+  below =
+      each_member (λ k. k < after) (ids_of g)
+      (λ id m. let shape = shape_there (shapes_of g) id (entry_there g id m) in stand.below g last id shape.0 shape.1)
 
 take_all : {X : Type 0} (xs ys : List X) → take (length xs) (xs ++ ys) ≡ xs
 take_all [] ys = refl
@@ -106,26 +165,3 @@ module _ (before after : NamedGraphs) (count next : ℕ) (many : count ≡ lengt
       let names : take count after.names ≡ before.names = ap (λ n. take n after.names) (many ∙ sym alike) ∙ h.names in
       let graphs : take count after.graphs ≡ before.graphs = ap (λ n. take n after.graphs) many ∙ h.graphs in
       λ i. record { names = names i; graphs = graphs i; next = free i }
-
--- the shapes of some graphs, as they are gathered
-between : {X : Type 0} (xs : List X) (x : X) (ys : List X) → (xs ++ x ∷ []) ++ ys ≡ xs ++ x ∷ ys
-between [] x ys = refl
-between (y ∷ xs) x ys = ap (λ zs. y ∷ zs) (between xs x ys)
-
-pub gathered : {X Y : Type 0} (f : X → Y) (xs : List X) (i : ℕ) (x : X) → slice_get xs i ≡ Some x → (seen after : List Y) → after ≡ seen ++ f x ∷ []
-    → seen ++ map f (drop i xs) ≡ map f xs → after ++ map f (drop (i + 1) xs) ≡ map f xs
-gathered f xs i x at seen after is h =
-    ap (λ ys. ys ++ map f (drop (i + 1) xs)) is ∙ (between seen (f x) (map f (drop (i + 1) xs)) ∙ (ap (λ ys. seen ++ map f ys) (sym (drop_at xs i x at)) ∙ h))
-
-no_more : {X : Type 0} (i : ℕ) (xs : List X) → length xs ≤ i → drop i xs ≡ []
-no_more zero [] h = refl
-no_more zero (x ∷ xs) h = absurd (omega (arith, h))
-no_more (suc i) [] h = refl
-no_more (suc i) (x ∷ xs) h = no_more i xs (omega (arith, h))
-
-nothing_behind : {X : Type 0} (xs : List X) → xs ++ [] ≡ xs
-nothing_behind [] = refl
-nothing_behind (x ∷ xs) = ap (λ zs. x ∷ zs) (nothing_behind xs)
-
-pub all_gathered : {X Y : Type 0} (f : X → Y) (xs : List X) (i : ℕ) (seen : List Y) → length xs ≤ i → seen ++ map f (drop i xs) ≡ map f xs → seen ≡ map f xs
-all_gathered f xs i seen past h = sym (nothing_behind seen) ∙ (ap (λ ys. seen ++ map f ys) (sym (no_more i xs past)) ∙ h)

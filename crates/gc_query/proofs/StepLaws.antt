@@ -1,5 +1,5 @@
 -- What a statement does to what stands, by what its query comes to.
-use Rattle.std.proofs.Common.{◌≡◌, ◌<◌, ◌&&◌, ℕ, zero, suc, Bool, true, false, List, [], ◌∷◌, map, length, get_or, Option, Some, if◌then◌else◌, Result, Ok, Err, refl, sym, ap, subst, ◌∙◌, slice_get}
+use Rattle.std.proofs.Common.{◌≡◌, ◌<◌, ◌&&◌, ℕ, zero, suc, Bool, true, false, List, [], ◌∷◌, map, length, get_or, Option, Some, Result, Ok, Err, refl, sym, ap, subst, ◌∙◌, slice_get}
 use Rattle.std.specs.List.{list_all}
 use Rattle.std.specs.Result.{IsErr, IsErrAnd}
 use Rattle.gc_ast.specs.QueryViews.{query_tree, statement_tree}
@@ -15,12 +15,11 @@ use Rattle.gc_lower.specs.Scopes.{Scope}
 use Rattle.gc_spec.specs.PropertyGraph.{PropertyGraph}
 use Rattle.gc_query.specs.Answered.{IsRefused}
 use Rattle.gc_query.specs.Built.{built}
-use Rattle.gc_query.specs.Queries.{Denotes, fits}
-use Rattle.gc_query.specs.Sessions.{Answer, Answers, Fails, Names as NamesGraph, Prints}
+use Rattle.gc_query.specs.Queries.{Denotes}
+use Rattle.gc_query.specs.Sessions.{Answers, Fails, Names as NamesGraph, Prints}
 use Rattle.gc_query.specs.Standings.{Made, Standing}
 use Rattle.gc_query.specs.Steps.{IsStep, standing}
 use Rattle.gc_query.specs.declared.fault.Fault.{Fault}
-use Rattle.gc_query.specs.declared.fault.Fault.TheVariants.{NoGraph}
 use Rattle.gc_query.specs.declared.fault.QueryRefusal.{QueryRefusal}
 use Rattle.gc_query.specs.declared.fault.QueryRefusal.TheVariants as refusal
 use Rattle.gc_query.proofs.AllOf.{got}
@@ -45,17 +44,11 @@ module _ (s : Scope) (at : Standing) (query : Tree AQuery) where
   ask_prints made d = (Ok made, d, refl)
 
   module _ (name : tree.Named) where
-    abbrev named_if : Made → Bool → Answer
-    named_if made t = if t then NamesGraph made else Fails NoGraph
-
     pub view_fails : (fault : Fault) → Denotes s at query (Err fault) → Answers s at (View name query) (Fails fault)
     view_fails fault d = (Err fault, d, refl)
 
-    pub view_unfit : (made : Made) → Denotes s at query (Ok made) → fits at made ≡ false → Answers s at (View name query) (Fails NoGraph)
-    view_unfit made d h = (Ok made, d, sym (ap (named_if made) h))
-
-    pub view_names : (made : Made) → Denotes s at query (Ok made) → fits at made ≡ true → Answers s at (View name query) (NamesGraph made)
-    view_names made d h = (Ok made, d, sym (ap (named_if made) h))
+    pub view_names : (made : Made) → Denotes s at query (Ok made) → Answers s at (View name query) (NamesGraph made)
+    view_names made d = (Ok made, d, refl)
 
 -- which statements are built
 module _ (s : Scope) (names : Names) where

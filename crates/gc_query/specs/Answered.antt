@@ -1,5 +1,6 @@
 -- What the code of a query gives: what the query denotes, or want of memory.
 use Rattle.std.specs.Prelude.{◌≡◌, ℕ, ◌≤◌, Bool, true, false, List, length, map, take, Option, Some, None, Result, Ok, Err, IfOk, ⊤}
+use Rattle.std.specs.List.{Contains}
 use Rattle.std.specs.Option.{option_map}
 use Rattle.gc_ast.specs.PatternViews.{named, pattern_tree}
 use Rattle.gc_ast.specs.QueryViews.{formula_tree}
@@ -14,6 +15,8 @@ use Rattle.gc_expr.specs.Views.{Names}
 use Rattle.gc_lower.specs.Namings.{scope_of}
 use Rattle.gc_lower.specs.Scopes.{Scope}
 use Rattle.gc_automata.specs.Moves.{Segment}
+use Rattle.gc_sets.specs.Origins.{AreMadeInTurn, ComesFrom}
+use Rattle.gc_spec.specs.PropertyGraph.{PropertyGraph}
 use Rattle.gc_views.specs.declared.fault.ViewFault.{ViewFault}
 use Rattle.gc_views.specs.declared.fault.ViewFault.TheVariants as view
 use Rattle.gc_query.specs.Segments.{Declared, declared}
@@ -64,6 +67,22 @@ declared_in names v =
 -- the next identity rises, at most to one more than the largest
 abbrev pub Rises : (next : ℕ) → Result Made QueryRefusal → Type 0
 Rises next result = IfOk result (λ made. (next ≤ made.next) × (made.next ≤ 9007199254740992))
+
+-- what is made comes from graphs, with new identities from the next one on
+abbrev pub ComesOf : List PropertyGraph → (next : ℕ) → Result Made QueryRefusal → Type 0
+ComesOf graphs next result = IfOk result (λ made. ComesFrom graphs next made.next made.graph)
+
+-- and where a graph comes from somewhere, what is made of it does too
+abbrev pub ComesAlong : List PropertyGraph → (first : Made) → Result Made QueryRefusal → Type 0
+ComesAlong graphs first result = (next : ℕ) → next ≤ first.next → ComesFrom graphs next first.next first.graph → ComesOf graphs next result
+
+-- what is made of two graphs comes from where they do, where the second was made after the first
+abbrev pub ComesOfBoth : (a b : PropertyGraph) → (after : ℕ) → PropertyGraph → Type 0
+ComesOfBoth a b after g = (graphs : List PropertyGraph) (next : ℕ) → AreMadeInTurn graphs next after a b → ComesFrom graphs next after g
+
+-- all graphs that stand then come from those before
+abbrev pub AllCome : (graphs : List PropertyGraph) (next : ℕ) → (after : List PropertyGraph) → Result ℕ QueryRefusal → Type 0
+AllCome graphs next after result = IfOk result (λ free. (g : PropertyGraph) → Contains after g → ComesFrom graphs next free g)
 
 -- what a session reads
 abbrev pub scope_in : Session → Scope

@@ -1,5 +1,5 @@
 -- What a query comes to: a graph, or a fault.
-use Rattle.std.specs.Prelude.{◌≡◌, ℕ, Bool, true, false, ◌&&◌, nat_le, List, [], ◌∷◌, ◌++◌, map, Result, Ok, Err, slice_get, if◌then◌else◌}
+use Rattle.std.specs.Prelude.{◌≡◌, ℕ, List, [], ◌∷◌, ◌++◌, Result, Ok, slice_get}
 use Rattle.std.specs.Option.{unwrap_or}
 use Rattle.gc_ast.specs.Trees.{Tree, AQuery, ATerm, AHead, ANextTerm, RowOf, Query, NextTerm, BasicTerm, GraphTerm, QueryTerm, PathHead, GraphHead, none, more}
 use Rattle.gc_ast.specs.declared.query.SetOp.{SetOp}
@@ -8,15 +8,11 @@ use Rattle.gc_lower.specs.Scopes.{Scope, number_at}
 use Rattle.gc_sets.specs.Differences.{difference}
 use Rattle.gc_sets.specs.Intersections.{IsIntersection}
 use Rattle.gc_sets.specs.Unions.{IsUnion}
-use Rattle.gc_ppg.specs.FreeIds.{first_free}
-use Rattle.gc_ppg.specs.Shapes.{graph_agrees}
-use Rattle.gc_spec.specs.Coherence.{shapes_of}
 use Rattle.gc_spec.specs.PropertyGraph.{PropertyGraph}
 use Rattle.gc_query.specs.Basics.{DenotesBasic}
 use Rattle.gc_query.specs.Outcomes.{Then}
 use Rattle.gc_query.specs.Standings.{Standing, Made}
 use Rattle.gc_query.specs.declared.fault.Fault.{Fault}
-use Rattle.gc_query.specs.declared.fault.Fault.TheVariants.{NoGraph}
 
 -- Take two graphs g and h, where the next identity is 5. `CONSTRUCT (x) MATCH (n) ON g UNION h`, where g has one node, comes to the
 -- graph of a new node 5 and of all that h has; the next identity is then 6.
@@ -38,27 +34,14 @@ IsCombined op.Union a b g = IsUnion a b g
 IsCombined op.Intersect a b g = IsIntersection a b g
 IsCombined op.Minus a b g = g ≡ difference a b
 
--- whether each identity of a graph stands for the same in some graphs
-abbrev pub agrees_with : List PropertyGraph → PropertyGraph → Bool
-agrees_with graphs g = graph_agrees (map shapes_of graphs) g
-
--- graphs that agree are combined; others have no graph
-abbrev pub Combines : SetOp → PropertyGraph → Made → Result Made Fault → Type 0
-Combines op a b (Ok made) = (agrees_with (a ∷ []) b.graph ≡ true) × IsCombined op a b.graph made.graph × (made.next ≡ b.next)
-Combines op a b (Err NoGraph) = agrees_with (a ∷ []) b.graph ≡ false
-Combines op a b (Err fault) = ⊥
-
--- whether a graph fits beside those that stand: it agrees with them, and its identities are below the next one
-abbrev pub fits : Standing → Made → Bool
-fits at made = agrees_with at.graphs made.graph && nat_le (first_free made.graph) made.next
+-- graphs are combined; the next identity is that behind the second
+pub record Combines (op : SetOp) (left : PropertyGraph) (right made : Made) : Type 0 where
+  pub combined : IsCombined op left right.graph made.graph
+  pub behind : made.next ≡ right.next
 
 -- with one more graph, under the next number
 abbrev pub with_made : Standing → Made → Standing
 with_made at made = record { graphs = at.graphs ++ made.graph ∷ []; next = made.next }
-
--- what stands with a graph more, where it fits
-abbrev pub stood : Standing → Made → Result Standing Fault
-stood at made = if fits at made then Ok (with_made at made) else Err NoGraph
 
 -- the same graphs with a later next identity
 abbrev pub from_next : Standing → (next : ℕ) → Standing
@@ -76,7 +59,7 @@ unfoldable mutual
   Heads s at none = λ under. under ≡ Ok at
   Heads s at (more (PathHead name chains filter cost) heads) = λ under. Heads s at heads under
   Heads s at (more (GraphHead name query) heads) =
-      λ under. (local : Result Made Fault) × Denotes s at query local × Then local (λ made stands. Then (stood at made) (λ now. Heads s now heads) stands) under
+      λ under. (local : Result Made Fault) × Denotes s at query local × Then local (λ made. Heads s (with_made at made) heads) under
 
   -- a term: a CONSTRUCT with its MATCH, a graph by name, or a query in parentheses
   pub DenotesTerm : Scope → Standing → Tree ATerm → Result Made Fault → Type 0
@@ -89,7 +72,7 @@ unfoldable mutual
   Joined s graphs left none = λ outcome. outcome ≡ Ok left
   Joined s graphs left (more (NextTerm op term) later) =
       λ outcome. (right : Result Made Fault) × DenotesTerm s (record { graphs = graphs; next = left.next }) term right
-      × Then right (λ made whole. (both : Result Made Fault) × Combines op left.graph made both × Then both (λ joined. Joined s graphs joined later) whole) outcome
+      × Then right (λ made whole. (both : Made) × Combines op left.graph made both × Joined s graphs both later whole) outcome
 
 -- what terms come to over what stands, from the left
 abbrev pub Terms : Scope → Standing → Tree ATerm → Tree (RowOf ANextTerm) → Result Made Fault → Type 0

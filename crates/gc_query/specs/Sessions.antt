@@ -1,11 +1,10 @@
 -- What the statements of a query file come to, one after another.
-use Rattle.std.specs.Prelude.{◌≡◌, List, [], ◌∷◌, Option, Some, None, Result, Ok, Err, if◌then◌else◌, ◌⊎◌}
+use Rattle.std.specs.Prelude.{◌≡◌, List, [], ◌∷◌, Option, Some, None, Result, Ok, Err, ◌⊎◌}
 use Rattle.gc_ast.specs.Trees.{Tree, AStatement, View, Ask}
 use Rattle.gc_lower.specs.Scopes.{Scope}
-use Rattle.gc_query.specs.Queries.{Denotes, fits, from_next, with_made}
+use Rattle.gc_query.specs.Queries.{Denotes, from_next, with_made}
 use Rattle.gc_query.specs.Standings.{Standing, Made}
 use Rattle.gc_query.specs.declared.fault.Fault.{Fault}
-use Rattle.gc_query.specs.declared.fault.Fault.TheVariants.{NoGraph}
 use Rattle.gc_spec.specs.PropertyGraph.{PropertyGraph}
 
 -- Take `CONSTRUCT (x) MATCH (n); GRAPH VIEW v AS (g); v; CONSTRUCT (n {k := 1/0}) MATCH (n)` over one graph g of one node: the first statement prints
@@ -22,14 +21,14 @@ abbrev pub AnswersAsk : Result Made Fault → Answer → Type 0
 AnswersAsk (Ok made) answer = answer ≡ Prints made
 AnswersAsk (Err fault) answer = answer ≡ Fails fault
 
--- a graph view names its graph, where that fits beside those that stand
-abbrev pub AnswersView : Standing → Result Made Fault → Answer → Type 0
-AnswersView at (Ok made) answer = answer ≡ (if fits at made then Names made else Fails NoGraph)
-AnswersView at (Err fault) answer = answer ≡ Fails fault
+-- a graph view names its graph
+abbrev pub AnswersView : Result Made Fault → Answer → Type 0
+AnswersView (Ok made) answer = answer ≡ Names made
+AnswersView (Err fault) answer = answer ≡ Fails fault
 
 abbrev pub Answers : Scope → Standing → Tree AStatement → Answer → Type 0
 Answers s at (Ask query) answer = (outcome : Result Made Fault) × Denotes s at query outcome × AnswersAsk outcome answer
-Answers s at (View name query) answer = (outcome : Result Made Fault) × Denotes s at query outcome × AnswersView at outcome answer
+Answers s at (View name query) answer = (outcome : Result Made Fault) × Denotes s at query outcome × AnswersView outcome answer
 
 -- what stands behind a statement: a printed graph leaves the graphs as they are, a named one is one more; a fault leaves all
 abbrev pub behind : Standing → Answer → Standing

@@ -1,9 +1,11 @@
 ghost use Rattle.std.specs.Prelude.{◌≡◌, ◌≤◌, [], true};
+ghost use Rattle.gc_alg.specs.Tables.{IsTableOfBlock};
 ghost use Rattle.gc_alg.specs.Views.{block_tree};
 ghost use Rattle.gc_ast.specs.QueryViews.{basic_tree};
+ghost use Rattle.gc_exec.specs.Runs.{setting};
 ghost use Rattle.gc_lower.specs.Blocks.{block_of};
 ghost use Rattle.gc_walks.specs.Databases.{AreOnGraphs};
-ghost use Rattle.gc_query.specs.Answered.{IsAnswered, Rises, names_in, outcome_of, scope_in};
+ghost use Rattle.gc_query.specs.Answered.{ComesOf, IsAnswered, Rises, names_in, outcome_of, scope_in};
 ghost use Rattle.gc_query.specs.Basics.{Comes, DenotesBasic};
 ghost use Rattle.gc_query.specs.Built.{are_searched};
 
@@ -12,6 +14,7 @@ use crate::fault::{Fault, QueryRefusal};
 use crate::made::Made;
 use crate::segments::segments_used;
 use crate::session::Session;
+use crate::standing::are_graphs;
 use crate::tables::table_of;
 use gc_alg::Block;
 use gc_ast::Basic;
@@ -37,6 +40,7 @@ pub(crate) fn basic_made<L: Ledger>(
     requires walks { are_searched (block_of (scope_in session.now) [] (basic_tree (names_in session.now) basic.now)) ≡ true }
     requires most { next ≤ 9007199254740992 }
     ensures rises { Rises next result }
+    ensures comes { ComesOf graphs.now next result }
     ensures due { IsAnswered (DenotesBasic (scope_in session.now) (record { graphs = graphs.now; next = next }) (basic_tree (names_in session.now) basic.now)) result }
 {
     let lowered = lower_match(session.alloc, session.checked, basic)?;
@@ -77,11 +81,14 @@ fn table_made<L: Ledger>(
     requires block { block_tree matched.now.block.now ≡ block_of (scope_in session.now) [] (basic_tree (names_in session.now) basic.now) }
     requires walks { are_searched (block_tree matched.now.block.now) ≡ true }
     requires there { AreOnGraphs graphs.now matched.now.segments.now }
+    requires matched { IsTableOfBlock (setting graphs.now matched.now.segments.now (block_tree matched.now.block.now) []) matched.now.table.now }
     requires most { next ≤ 9007199254740992 }
     ensures rises { Rises next result }
+    ensures comes { ComesOf graphs.now next result }
     ensures due { let s = scope_in session.now in let tree = basic_tree (names_in session.now) basic.now in
         IsAnswered (Comes s (record { graphs = graphs.now; next = next }) tree matched.now.segments.now matched.now.table.now) result }
 {
+    are_graphs(graphs);
     let bound = matched.table.schema().as_slice();
     let found = found_variables(session.alloc, matched.block)?;
     let recipe = recipe(

@@ -1,9 +1,8 @@
-ghost use Rattle.std.specs.Prelude.{◌≡◌, ◌∷◌, [], true, IfOk};
-ghost use Rattle.gc_query.specs.Answered.{IsAnswered};
-ghost use Rattle.gc_query.specs.Queries.{Combines, IsCombined, agrees_with};
+ghost use Rattle.std.specs.Prelude.{IfOk, ℕ};
+ghost use Rattle.gc_query.specs.Answered.{ComesOfBoth};
+ghost use Rattle.gc_query.specs.Queries.{Combines, IsCombined};
+ghost use Rattle.gc_spec.specs.Coherence.{AreCoherent};
 
-use crate::agreeing::agree;
-use crate::fault::{Fault, QueryRefusal};
 use crate::made::Made;
 use gc_ast::SetOp;
 use gc_base::{Memory, Steps};
@@ -12,20 +11,18 @@ use gc_sets::{intersect, minus, union};
 use std::alloc::Global;
 use std::sync::ledger::Ledger;
 
-/// Two graphs combined, of which the second was made later. It is refused as `NoGraph` exactly where an
-/// identity of both does not stand for the same in them.
+/// Two graphs combined that agree, of which the second was made later.
 pub(crate) fn combined<L: Ledger>(
     alloc: Global,
     op: SetOp,
     left: &Graph,
     right: Made,
     steps: &mut Steps<L>,
-) -> Result<Made, QueryRefusal>
-    ensures { IsAnswered (Combines op left.now right) result }
+) -> Result<Made, Memory>
+    requires { AreCoherent left.now right.graph }
+    ensures due { IfOk result (Combines op left.now right) }
+    ensures comes { IfOk result (λ made. ComesOfBoth left.now right.graph right.next made.graph) }
 {
-    if !agree(alloc, left, &right.graph, steps)? {
-        return Err(QueryRefusal::Fault(Fault::NoGraph));
-    }
     let graph = of_both(alloc, op, left, &right.graph, steps)?;
     Ok(Made {
         graph,
@@ -41,9 +38,11 @@ fn of_both<L: Ledger>(
     right: &Graph,
     steps: &mut Steps<L>,
 ) -> Result<Graph, Memory>
-    requires { agrees_with (left.now ∷ []) right.now ≡ true }
-    ensures { IfOk result (IsCombined op left.now right.now) }
+    requires { AreCoherent left.now right.now }
+    ensures combined { IfOk result (IsCombined op left.now right.now) }
+    ensures comes { IfOk result (λ g. (after : ℕ) → ComesOfBoth left.now right.now after g) }
 {
+    let _valid = (left.node_count(), right.node_count());
     match op {
         SetOp::Union => union(alloc, left, right, steps),
         SetOp::Intersect => intersect(alloc, left, right, steps),

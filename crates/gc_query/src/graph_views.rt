@@ -9,8 +9,7 @@ ghost use Rattle.gc_query.specs.Built.{built};
 ghost use Rattle.gc_query.specs.Steps.{IsStep, free_word, with_named};
 ghost use Rattle.gc_spec.specs.Coherence.{AreCoherent};
 
-use crate::fault::{Fault, QueryRefusal};
-use crate::standing::fits;
+use crate::fault::QueryRefusal;
 use crate::steps::answered;
 use gc_ast::Query;
 use gc_base::{Duplicate, Memory, Name, NameAt, Steps};
@@ -34,9 +33,6 @@ pub(crate) fn view_step<L: Ledger>(
         (View (named checked.now.file.names name) (query_tree checked.now.file.names query.now)) result }
 {
     let made = answered(alloc, checked, query, catalog, steps)?;
-    if !fits(alloc, catalog.graphs(), &made, steps)? {
-        return Err(QueryRefusal::Fault(Fault::NoGraph));
-    }
     let (graphs, free) = (catalog.graphs().len(), catalog.next());
     catalog.set_next(made.next);
     match add_view(checked, name, made.graph, catalog) {

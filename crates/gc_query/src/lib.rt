@@ -2,7 +2,6 @@
 //! graphs of a session as the definitions say. This crate reads no text and knows of no folder.
 #![tactic(auto)]
 
-mod agreeing;
 mod basics;
 mod combining;
 mod costs;

@@ -1,7 +1,8 @@
 ghost use Rattle.std.specs.Prelude.{◌≡◌, ◌≤◌, [], map, true, IfOk, Ok};
 ghost use Rattle.gc_ast.specs.QueryViews.{head_tree, next_term_tree, query_tree, term_tree};
 ghost use Rattle.gc_ast.specs.Trees.{more, none, row};
-ghost use Rattle.gc_query.specs.Answered.{AreStood, IsAnswered, IsLonger, Rises, RisesOver, names_in, scope_in, standing_at};
+ghost use Rattle.gc_query.specs.Answered.{AllCome, AreStood, ComesAlong, ComesOf, IsAnswered, IsLonger, Rises, RisesOver, names_in, scope_in, standing_at};
+ghost use Rattle.gc_sets.specs.Origins.{ComesFrom};
 ghost use Rattle.gc_query.specs.Built.{built};
 ghost use Rattle.gc_query.specs.Queries.{Denotes, DenotesTerm, Heads, Joined, graph_of_number, named, no_elements};
 ghost use Rattle.gc_lower.specs.Scopes.{number_at};
@@ -35,6 +36,7 @@ pub(crate) fn query_made<L: Ledger>(
     requires most { next ≤ 9007199254740992 }
     ensures rises { Rises next result }
     ensures due { IsAnswered (Denotes (scope_in session.now) (standing_at catalog.old next) (query_tree (names_in session.now) query.now)) result }
+    ensures comes { ComesOf catalog.old.graphs next result }
     ensures kept { catalog.new ≡ catalog.old }
 {
     let graphs = catalog.graphs().len();
@@ -59,6 +61,7 @@ fn query_under<L: Ledger>(
     requires most { next ≤ 9007199254740992 }
     ensures rises { Rises next result }
     ensures due { IsAnswered (Denotes (scope_in session.now) (standing_at catalog.old next) (query_tree (names_in session.now) query.now)) result }
+    ensures comes { ComesOf catalog.old.graphs next result }
     ensures longer { IsLonger catalog.old catalog.new }
 {
     let free = heads_stood(&query.heads, session, catalog, next, steps)?;
@@ -81,6 +84,7 @@ fn heads_stood<L: Ledger>(
     requires most { next ≤ 9007199254740992 }
     ensures rises { RisesOver next catalog.new result }
     ensures due { AreStood (Heads (scope_in session.now) (standing_at catalog.old next) (row (map (head_tree (names_in session.now)) heads.now))) catalog.new result }
+    ensures come { AllCome catalog.old.graphs next catalog.new.graphs result }
     ensures longer { IsLonger catalog.old catalog.new }
 {
     let mut free = next;
@@ -105,12 +109,13 @@ fn head_stood<L: Ledger>(
     requires most { next ≤ 9007199254740992 }
     ensures rises { RisesOver next catalog.new result }
     ensures due { AreStood (Heads (scope_in session.now) (standing_at catalog.old next) (more (head_tree (names_in session.now) head.now) none)) catalog.new result }
+    ensures come { AllCome catalog.old.graphs next catalog.new.graphs result }
     ensures longer { IsLonger catalog.old catalog.new }
 {
     match head {
         Head::Graph { name: _, query } => {
             let made = query_made(query, session, catalog, next, steps)?;
-            stand(session.alloc, catalog, made, steps)
+            stand(catalog, made)
         }
         // A view is evaluated where it is used.
         Head::Path { .. } => Ok(next),
@@ -130,10 +135,13 @@ fn joined<L: Ledger>(
     requires built { built (scope_in session.now) (row (map (next_term_tree (names_in session.now)) rest.now)) ≡ true }
     requires later { catalog.old.next ≤ first.next }
     requires most { first.next ≤ 9007199254740992 }
+    requires comes { ComesFrom catalog.old.graphs catalog.old.next first.next first.graph }
     ensures rises { Rises first.next result }
     ensures due { IsAnswered (Joined (scope_in session.now) catalog.old.graphs first (row (map (next_term_tree (names_in session.now)) rest.now))) result }
+    ensures comes { ComesAlong catalog.old.graphs first result }
     ensures kept { catalog.new ≡ catalog.old }
 {
+    let _valid = catalog.next();
     let mut left = first;
     for later in rest {
         let right = term_made(&later.term, session, catalog, left.next, steps)?;
@@ -157,6 +165,7 @@ fn term_made<L: Ledger>(
     requires most { next ≤ 9007199254740992 }
     ensures rises { Rises next result }
     ensures due { IsAnswered (DenotesTerm (scope_in session.now) (standing_at catalog.old next) (term_tree (names_in session.now) term.now)) result }
+    ensures comes { ComesOf catalog.old.graphs next result }
     ensures kept { catalog.new ≡ catalog.old }
 {
     match term {
@@ -175,6 +184,7 @@ fn graph_named(
 ) -> Result<Made, QueryRefusal>
     requires most { next ≤ 9007199254740992 }
     ensures rises { Rises next result }
+    ensures comes { ComesOf graphs.now next result }
     ensures due { IsAnswered (λ outcome. outcome ≡ Ok (named (record { graphs = graphs.now; next = next }) (number_at (scope_in session.now).graph_at token))) result }
 {
     let number = session.checked.graph_at(token).unwrap_or(0);

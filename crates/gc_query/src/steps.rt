@@ -2,7 +2,7 @@ ghost use Rattle.std.specs.Prelude.{◌≡◌, ◌<◌, true, length};
 ghost use Rattle.gc_ast.specs.QueryViews.{file_trees, query_tree, statement_tree};
 ghost use Rattle.gc_ast.specs.Trees.{Ask};
 ghost use Rattle.gc_lower.specs.Namings.{file_of, scope_of};
-ghost use Rattle.gc_query.specs.Answered.{IsAnswered, Rises};
+ghost use Rattle.gc_query.specs.Answered.{ComesOf, IsAnswered, Rises};
 ghost use Rattle.gc_query.specs.Built.{built, is_built};
 ghost use Rattle.gc_query.specs.Queries.{Denotes};
 ghost use Rattle.gc_query.specs.Steps.{IsStep, IsStepAt, standing};
@@ -90,6 +90,7 @@ pub(crate) fn answered<L: Ledger>(
     requires { built (scope_of checked.now 0) (query_tree checked.now.file.names query.now) ≡ true }
     ensures due { IsAnswered (Denotes (scope_of checked.now 0) (standing catalog.old) (query_tree checked.now.file.names query.now)) result }
     ensures rises { Rises catalog.old.next result }
+    ensures comes { ComesOf catalog.old.graphs catalog.old.next result }
     ensures kept { catalog.new ≡ catalog.old }
 {
     let session = Session { alloc, checked };

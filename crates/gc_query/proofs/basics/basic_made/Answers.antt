@@ -24,6 +24,9 @@ table_made-requires-clause-block g c = c.in_ok-lowered.ensures.is_block
 pub table_made-requires-clause-walks : goal.table_made-requires-clause-walks
 table_made-requires-clause-walks g c = ap are_searched c.in_ok-lowered.ensures.is_block ∙ c.requires.walks
 
+pub table_made-requires-clause-matched : goal.table_made-requires-clause-matched
+table_made-requires-clause-matched g c = c.in_ok-table.ensures
+
 pub returns-in_err-segments-clause-due : goal.returns-in_err-segments-clause-due
 returns-in_err-segments-clause-due g c =
     let s : Scope = scope_in c.args.session.now in

@@ -1,4 +1,4 @@
-use Rattle.std.proofs.Common.{◌+◌, length, drop, slice_get, Some, ◌≡◌, ◌≤◌, [], Ok, Err, List, map, true, rules, sym, ap, ◌∙◌, subst, refl, arith}
+use Rattle.std.proofs.Common.{ℕ, ◌∷◌, ◌++◌, OnOk, Result, ◌+◌, length, drop, slice_get, Some, ◌≡◌, ◌≤◌, [], Ok, Err, List, map, true, rules, sym, ap, ◌∙◌, subst, refl, arith}
 use Rattle.gc_ast.specs.declared.query.Basic.{Basic}
 use Rattle.gc_ast.specs.declared.query.Query.{Query, out-Query}
 use Rattle.gc_ast.specs.declared.construct.Change.{the_lemmas}
@@ -9,20 +9,24 @@ use Rattle.gc_catalog.specs.NamedGraphs.{NamedGraphs}
 use Rattle.gc_expr.specs.Views.{Names, name_of}
 use Rattle.gc_lower.specs.Blocks.{block_of}
 use Rattle.gc_lower.specs.Scopes.{Scope, number_at}
+use Rattle.gc_sets.specs.Origins.{ComesFrom}
+use Rattle.gc_sets.proofs.OriginLaws.{comes_through, comes_wider, own_comes, turns_agree}
 use Rattle.gc_spec.specs.PropertyGraph.{PropertyGraph}
-use Rattle.gc_query.specs.Answered.{AreStood, IsAnswered, IsLonger, names_in, scope_in, standing_at}
+use Rattle.gc_query.specs.Answered.{AreStood, ComesAlong, ComesOf, IsAnswered, IsLonger, names_in, scope_in, standing_at}
 use Rattle.gc_query.specs.Basics.{DenotesBasic}
 use Rattle.gc_query.specs.Built.{built, are_searched}
-use Rattle.gc_query.specs.Queries.{Combines, Denotes, DenotesTerm, Heads, Joined, named, stood}
+use Rattle.gc_query.specs.Queries.{Denotes, DenotesTerm, Heads, Joined, named, with_made}
 use Rattle.gc_query.specs.Standings.{Made, Standing}
+use Rattle.gc_query.specs.declared.fault.Fault.{Fault}
 use Rattle.gc_query.proofs.BuiltParts.{of_basic, of_inner, of_next}
 use Rattle.gc_query.proofs.BuiltRests.{first_is, heads_are, later_are, next_is, rest_is}
 use Rattle.gc_query.proofs.AllOf.{drop_at, got}
 use Rattle.gc_query.proofs.Heads.{goes_on, graph_fails, head_fails, names_graph, names_view}
-use Rattle.gc_query.proofs.Outcomes.{not_stood, passes_on, refused, stands_on}
+use Rattle.gc_query.proofs.Outcomes.{if_ok, not_stood, passes_on, refused, stands_on}
 use Rattle.gc_query.proofs.QueryParts.{path_head}
-use Rattle.gc_query.proofs.QueriesWhole.{basic_comes, inner_comes, joining_fails, joins, query_comes, term_fails, terms_come}
-use Rattle.gc_query.proofs.Standings.{as_long, below_again, first_again, longer_yet, there_again}
+use Rattle.gc_query.proofs.QueriesWhole.{basic_comes, inner_comes, joins, query_comes, term_fails, terms_come}
+use Rattle.gc_query.proofs.Standings.{as_long, below_again, first_again, longer_yet, stands, there_again}
+use Rattle.gc_query.proofs.Origins.{come_through, one_comes, rises_on}
 use Rattle.gc_query.proofs.queries.+made.Goals as goal
 
 pub joined-term_made-requires : goal.joined-term_made-requires
@@ -57,18 +61,23 @@ joined-returns-in_err-right-clause-due g t c =
     (Joined s graphs c.args.first (tree.row (map (next_term_tree names) c.args.rest.now))) c.from_residual.result c.from_residual.ensures.0 c.from_residual.ensures.1
     (λ fault d. c.loop-later.invariant.leads (Err fault) (subst (λ l. Joined s graphs l (tree.row (map (next_term_tree names) (drop c.loop-later.later-index c.args.rest.now))) (Err fault)) same (term_fails s names graphs c.args.rest.now c.loop-later.later-index c.later-item.result at left fault (subst (λ (n : NamedGraphs). DenotesTerm s (standing_at n left.next) (term_tree names c.later-item.result.term) (Err fault)) c.loop-later.invariant.kept d))))
 
-pub joined-returns-in_err-left-clause-due : goal.joined-returns-in_err-left-clause-due
-joined-returns-in_err-left-clause-due g t c =
-    let s : Scope = scope_in c.args.session.now in
-    let names : Names = names_in c.args.session.now in
-    let at : slice_get c.args.rest.now c.loop-later.later-index ≡ Some c.later-item.result = got c.args.rest.now c.loop-later.later-index c.later-item.result (omega arith) c.later-item.is in
+-- the two graphs that are combined come from the same, the second after the first
+pub joined-combined-requires : goal.joined-combined-requires
+joined-combined-requires g t c =
     let left : Made = record { graph = c.left.inside.graph; next = c.left.inside.next } in
     let same : left ≡ c.loop-later.left = c.left.view_is in
+    let inv = c.loop-later.invariant in
     let graphs : List PropertyGraph = c.args.catalog.now.graphs in
-    refused (λ fault. Combines c.later-item.result.op left.graph c.in_ok-right.right (Err fault)) c.in_err-left.field-0.0 c.in_err-left.ensures
-    (Joined s graphs c.args.first (tree.row (map (next_term_tree names) c.args.rest.now))) c.from_residual-in_err-left.result c.from_residual-in_err-left.ensures.0 c.from_residual-in_err-left.ensures.1
-    (λ fault d. c.loop-later.invariant.leads (Err fault)
-    (subst (λ l. Joined s graphs l (tree.row (map (next_term_tree names) (drop c.loop-later.later-index c.args.rest.now))) (Err fault)) same (joining_fails s names graphs c.args.rest.now c.loop-later.later-index c.later-item.result at left c.in_ok-right.right (subst (λ (n : NamedGraphs). DenotesTerm s (standing_at n left.next) (term_tree names c.later-item.result.term) (Ok c.in_ok-right.right)) c.loop-later.invariant.kept c.in_ok-right.ensures.due) fault d)))
+    turns_agree graphs c.args.catalog.now.next (stands c.args.catalog.now c.next-valid.ensures.valid) c.in_ok-right.right.next left.graph c.in_ok-right.right.graph (record {
+      middle = left.next;
+      up = omega (arith, c.requires.later, inv.later, ap (λ (m : Made). m.next) same);
+      on = c.in_ok-right.ensures.rises.0;
+      first = subst (λ (m : Made). ComesFrom graphs c.args.catalog.now.next m.next m.graph) (sym same) inv.comes;
+      second = subst (λ (n : NamedGraphs). ComesFrom n.graphs left.next c.in_ok-right.right.next c.in_ok-right.right.graph) inv.kept c.in_ok-right.ensures.comes;
+    })
+
+pub joined-loop-later-init : goal.joined-loop-later-init
+joined-loop-later-init g t c = record { built = c.requires.built; later = omega arith; most = c.requires.most; kept = refl; comes = c.requires.comes; along = λ next up h. h; leads = λ outcome j. j }
 
 pub joined-loop-later-preserved : goal.joined-loop-later-preserved
 joined-loop-later-preserved g t c =
@@ -79,12 +88,25 @@ joined-loop-later-preserved g t c =
     let same : left ≡ c.loop-later.left = c.left.view_is in
     let graphs : List PropertyGraph = c.args.catalog.now.graphs in
     let inv = c.loop-later.invariant in
-    let both = c.in_ok-left.ensures in
+    let both = c.in_ok-left.ensures.due in
+    let right : Made = c.in_ok-right.right in
+    let turns : (next : ℕ) → next ≤ left.next → ComesFrom graphs next left.next left.graph → ComesFrom graphs next c.in_ok-left.left.next c.in_ok-left.left.graph =
+    λ next up comes. subst (λ n. ComesFrom graphs next n c.in_ok-left.left.graph) (sym both.behind) (c.in_ok-left.ensures.comes graphs next (record {
+      middle = left.next;
+      up = up;
+      on = c.in_ok-right.ensures.rises.0;
+      first = comes;
+      second = subst (λ (n : NamedGraphs). ComesFrom n.graphs left.next right.next right.graph) inv.kept c.in_ok-right.ensures.comes;
+    })) in
+    let with : (next : ℕ) → ComesFrom graphs next c.loop-later.left.next c.loop-later.left.graph → ComesFrom graphs next left.next left.graph =
+    λ next h. subst (λ (m : Made). ComesFrom graphs next m.next m.graph) (sym same) h in
     record {
       built = later_are s (next_term_tree names) c.args.rest.now c.loop-later.later-index c.later-item.result at inv.built;
-      later = omega (arith, inv.later, ap (λ (m : Made). m.next) same, c.in_ok-right.ensures.rises, both.2);
-      most = omega (arith, c.in_ok-right.ensures.rises, both.2);
+      later = omega (arith, inv.later, ap (λ (m : Made). m.next) same, c.in_ok-right.ensures.rises, both.behind);
+      most = omega (arith, c.in_ok-right.ensures.rises, both.behind);
       kept = c.in_ok-right.ensures.kept ∙ inv.kept;
+      comes = turns c.args.catalog.now.next (omega (arith, c.requires.later, inv.later, ap (λ (m : Made). m.next) same)) (with c.args.catalog.now.next inv.comes);
+      along = λ next up h. turns next (omega (arith, up, inv.later, ap (λ (m : Made). m.next) same)) (with next (inv.along next up h));
       leads = λ outcome j. inv.leads outcome (subst (λ l. Joined s graphs l (tree.row (map (next_term_tree names) (drop c.loop-later.later-index c.args.rest.now))) outcome) same
           (joins s names graphs c.args.rest.now c.loop-later.later-index c.later-item.result at left c.in_ok-right.right (subst (λ (n : NamedGraphs). DenotesTerm s (standing_at n left.next) (term_tree names c.later-item.result.term) (Ok c.in_ok-right.right)) c.loop-later.invariant.kept c.in_ok-right.ensures.due) c.in_ok-left.left both outcome j));
     }
@@ -116,13 +138,29 @@ pub query_under-term_made-requires : goal.query_under-term_made-requires
 query_under-term_made-requires g t c κs within =
     (search (rules, the_lemmas), (within, (first_is (scope_in c.args.session.now) (names_in c.args.session.now) c.args.query.now c.requires.built, (c.in_ok-free.ensures.rises.1, c.in_ok-free.ensures.rises.2))))
 
+-- the first term comes from what stands under the heads
 pub query_under-joined-requires : goal.query_under-joined-requires
 query_under-joined-requires g t c κs within =
     let s : Scope = scope_in c.args.session.now in
     let names : Names = names_in c.args.session.now in
     let is : built s (tree.row (map (next_term_tree names) c.deref-2.result.now)) ≡ true =
-    ap (λ items. built s (tree.row (map (next_term_tree names) items))) c.deref-2.ensures.value ∙ rest_is s names c.args.query.now c.requires.built in
-    (rw c.deref-2.ensures.value (search (rules, the_lemmas)), (within, (is, (omega (arith, ap (λ (n : NamedGraphs). n.next) c.in_ok-first.ensures.kept, c.in_ok-free.ensures.rises, c.in_ok-first.ensures.rises), c.in_ok-first.ensures.rises.1))))
+    ap (λ items. built s (tree.row (map (next_term_tree names) items))) c.deref-2.ensures.value ∙ rest_is s names c.args.query.now c.requires.built in (
+      rw c.deref-2.ensures.value (search (rules, the_lemmas)),
+      (
+        within,
+        (
+          is,
+          (
+            omega (arith, ap (λ (n : NamedGraphs). n.next) c.in_ok-first.ensures.kept, c.in_ok-free.ensures.rises, c.in_ok-first.ensures.rises),
+            (
+              c.in_ok-first.ensures.rises.1,
+              subst (λ (n : NamedGraphs). ComesFrom n.graphs n.next c.in_ok-first.first.next c.in_ok-first.first.graph) (sym c.in_ok-first.ensures.kept)
+                  (comes_wider c.heads_stood.new.catalog.graphs c.heads_stood.new.catalog.next c.in_ok-free.free c.in_ok-first.first.next c.in_ok-first.first.next c.in_ok-free.ensures.rises.1 (omega arith) c.in_ok-first.first.graph c.in_ok-first.ensures.comes),
+            ),
+          ),
+        ),
+      ),
+    )
 
 pub query_under-returns-in_err-free-clause-due : goal.query_under-returns-in_err-free-clause-due
 query_under-returns-in_err-free-clause-due g t c =
@@ -160,6 +198,15 @@ query_under-returns-clause-due g t c =
     (subst (λ graphs. Joined s graphs c.in_ok-first.first (tree.row (map (next_term_tree names) (out-Query c.args.query.now).rest.items)) outcome) same
     (subst (λ items. Joined s c.term_made.new.catalog.graphs c.in_ok-first.first (tree.row (map (next_term_tree names) items)) outcome) c.deref-2.ensures.value j)))) c.joined.ensures.due
 
+pub query_under-returns-clause-comes : goal.query_under-returns-clause-comes
+query_under-returns-clause-comes g t c =
+    let before : NamedGraphs = c.args.catalog.now in
+    let middle : NamedGraphs = c.heads_stood.new.catalog in
+    let along = subst (λ (n : NamedGraphs). ComesAlong n.graphs c.in_ok-first.first c.joined.result) c.in_ok-first.ensures.kept c.joined.ensures.comes in
+    come_through before.graphs middle.graphs c.args.next c.in_ok-free.free c.in_ok-free.ensures.rises.0 c.in_ok-free.ensures.come c.joined.result
+    (rises_on c.in_ok-free.free c.in_ok-first.first.next c.in_ok-first.ensures.rises.0 c.joined.result c.joined.ensures.rises)
+    (along c.in_ok-free.free c.in_ok-first.ensures.rises.0 c.in_ok-first.ensures.comes)
+
 pub query_under-returns-in_err-first-clause-longer : goal.query_under-returns-in_err-first-clause-longer
 query_under-returns-in_err-first-clause-longer g t c = subst (IsLonger c.args.catalog.now) (sym c.in_err-first.ensures.kept) c.in_ok-free.ensures.longer
 
@@ -167,7 +214,7 @@ pub query_under-returns-clause-longer : goal.query_under-returns-clause-longer
 query_under-returns-clause-longer g t c = subst (IsLonger c.args.catalog.now) (sym (c.joined.ensures.kept ∙ c.in_ok-first.ensures.kept)) c.in_ok-free.ensures.longer
 
 pub heads_stood-loop-head-init : goal.heads_stood-loop-head-init
-heads_stood-loop-head-init g t c = record { built = c.requires.built; rises = omega arith; later = c.requires.later; most = c.requires.most; longer = as_long c.args.catalog.now; leads = λ under h. h }
+heads_stood-loop-head-init g t c = record { built = c.requires.built; rises = omega arith; later = c.requires.later; most = c.requires.most; longer = as_long c.args.catalog.now; come = λ h m. own_comes c.args.catalog.now.graphs c.args.next c.args.next h m; leads = λ under h. h }
 
 pub heads_stood-head_stood-requires : goal.heads_stood-head_stood-requires
 heads_stood-head_stood-requires g t c κs within =
@@ -189,6 +236,7 @@ heads_stood-loop-head-preserved g t c =
       later = c.in_ok-free.ensures.rises.1;
       most = c.in_ok-free.ensures.rises.2;
       longer = longer_yet c.args.catalog.now c.loop-head.catalog c.head_stood.new.catalog inv.longer c.in_ok-free.ensures.longer;
+      come = λ h m. comes_through c.args.catalog.now.graphs c.loop-head.catalog.graphs c.args.next c.loop-head.free c.in_ok-free.free inv.rises c.in_ok-free.ensures.rises.0 inv.come h (c.in_ok-free.ensures.come h m);
       leads = λ under h. inv.leads under
           (subst (λ heads. Heads s (standing_at c.loop-head.catalog c.loop-head.free) (tree.row (map (head_tree names) heads)) under) (sym (drop_at c.args.heads.now c.loop-head.head-index c.head-item.result at))
           (goes_on s (standing_at c.loop-head.catalog c.loop-head.free) now (head_tree names c.head-item.result) (tree.row (map (head_tree names) (drop (c.loop-head.head-index + 1) c.args.heads.now))) under c.in_ok-free.ensures.due h));
@@ -249,9 +297,28 @@ head_stood-returns-in_ok-made-in-Graph-clause-due g t c =
     let made : Made = c.in_ok-made-in-Graph.made in
     let query = query_tree names c.in-Graph.query in
     let e : head_tree names c.args.head.now ≡ tree.GraphHead (named_by (name_of names) c.in-Graph.name) query = rw c.in-Graph.is (search (rules, the_lemmas)) in
-    let same : stood (standing_at c.query_made.new.catalog made.next) made ≡ stood at made = ap (λ (n : NamedGraphs). stood (standing_at n made.next) made) c.in_ok-made-in-Graph.ensures.kept in
-    stands_on (Heads s at (tree.more (head_tree names c.args.head.now) tree.none)) (λ under. under ≡ stood (standing_at c.query_made.new.catalog made.next) made) c.stand.new.catalog c.stand.result
+    let with : NamedGraphs → Result Standing Fault = λ n. Ok (with_made (standing_at n made.next) made) in
+    let same : with c.query_made.new.catalog ≡ Ok (with_made at made) = ap with c.in_ok-made-in-Graph.ensures.kept in
+    stands_on (Heads s at (tree.more (head_tree names c.args.head.now) tree.none)) (λ under. under ≡ with c.query_made.new.catalog) c.stand.new.catalog c.stand.result
     (λ under is. subst (λ t. Heads s at (tree.more t tree.none) under) (sym e) (names_graph s at (named_by (name_of names) c.in-Graph.name) query made under c.in_ok-made-in-Graph.ensures.due (is ∙ same))) c.stand.ensures.due
+
+pub head_stood-stand-requires-clause-comes : goal.head_stood-stand-requires-clause-comes
+head_stood-stand-requires-clause-comes g t c =
+    let before : NamedGraphs = c.args.catalog.now in
+    let made : Made = c.in_ok-made-in-Graph.made in
+    subst (λ (n : NamedGraphs). ComesFrom n.graphs n.next made.next made.graph) (sym c.in_ok-made-in-Graph.ensures.kept)
+    (comes_wider before.graphs before.next c.args.next made.next made.next c.requires.later (omega arith) made.graph c.in_ok-made-in-Graph.ensures.comes)
+
+pub head_stood-returns-in-Path-clause-come : goal.head_stood-returns-in-Path-clause-come
+head_stood-returns-in-Path-clause-come g t c = λ h m. own_comes c.args.catalog.now.graphs c.args.next c.args.next h m
+
+pub head_stood-returns-in_ok-made-in-Graph-clause-come : goal.head_stood-returns-in_ok-made-in-Graph-clause-come
+head_stood-returns-in_ok-made-in-Graph-clause-come g t c =
+    let made : Made = c.in_ok-made-in-Graph.made in
+    let graphs : List PropertyGraph = c.args.catalog.now.graphs in
+    let same : c.query_made.new.catalog.graphs ≡ graphs = ap (λ (n : NamedGraphs). n.graphs) c.in_ok-made-in-Graph.ensures.kept in
+    one_comes graphs c.stand.new.catalog.graphs c.args.next made c.in_ok-made-in-Graph.ensures.comes c.stand.result
+    (subst (λ (gs : List PropertyGraph). OnOk c.stand.result (c.stand.new.catalog.graphs ≡ gs ++ made.graph ∷ [])) same c.stand.ensures.added) (if_ok _ _ (λ free h. h.0) c.stand.result c.stand.ensures.rises)
 
 pub term_made-basic_made-requires-clause-walks : goal.term_made-basic_made-requires-clause-walks
 term_made-basic_made-requires-clause-walks g t c =
@@ -294,3 +361,11 @@ term_made-returns-in-Query-clause-due g t c =
     passes_on (DenotesTerm s at (term_tree names c.args.term.now)) (Denotes s at (query_tree names c.deref-in-Query.result.now)) c.query_made.result
     (λ outcome d. subst (λ x. DenotesTerm s at (term_tree names x) outcome) (sym c.in-Query.is)
     (inner_comes s names at c.in-Query.query outcome (subst (λ (q : Query). Denotes s at (query_tree names q) outcome) c.deref-in-Query.ensures d))) c.query_made.ensures.due
+
+pub term_made-returns-in-Basic-clause-comes : goal.term_made-returns-in-Basic-clause-comes
+term_made-returns-in-Basic-clause-comes g t c =
+    subst (λ (gs : List PropertyGraph). ComesOf gs c.args.next c.basic_made.result) c.graphs.ensures.graphs c.basic_made.ensures.comes
+
+pub term_made-returns-in-Graph-clause-comes : goal.term_made-returns-in-Graph-clause-comes
+term_made-returns-in-Graph-clause-comes g t c =
+    subst (λ (gs : List PropertyGraph). ComesOf gs c.args.next c.graph_named.result) c.graphs-in-Graph.ensures.graphs c.graph_named.ensures.comes

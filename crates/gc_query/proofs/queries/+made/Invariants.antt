@@ -1,6 +1,9 @@
-use Rattle.std.proofs.Common.{◌≡◌, ◌≤◌, true, drop, map, Result}
+use Rattle.std.proofs.Common.{◌≡◌, ◌≤◌, ℕ, true, drop, map, Result}
+use Rattle.std.specs.List.{Contains}
 use Rattle.gc_ast.specs.QueryViews.{head_tree, next_term_tree}
 use Rattle.gc_ast.specs.Trees.{row}
+use Rattle.gc_sets.specs.Origins.{ComesFrom}
+use Rattle.gc_spec.specs.PropertyGraph.{PropertyGraph}
 use Rattle.gc_query.specs.Answered.{IsLonger, names_in, scope_in, standing_at}
 use Rattle.gc_query.specs.Built.{built}
 use Rattle.gc_query.specs.Queries.{Heads, Joined}
@@ -16,6 +19,7 @@ invariant-heads_stood-loop-head g l = record {
   later : l.catalog.next ≤ l.free;
   most : l.free ≤ 9007199254740992;
   longer : IsLonger l.initial.catalog l.catalog;
+  come : (g : PropertyGraph) → Contains l.catalog.graphs g → ComesFrom l.initial.catalog.graphs l.fn.next l.free g;
   leads : (under : Result Standing Fault) → Heads (scope_in l.session) (standing_at l.catalog l.free) (row (map (head_tree (names_in l.session)) (drop l.head-index l.heads))) under
       → Heads (scope_in l.session) (standing_at l.initial.catalog l.fn.next) (row (map (head_tree (names_in l.session)) l.heads)) under;
 }
@@ -27,6 +31,8 @@ invariant-joined-loop-later g l = record {
   later : l.fn.first.next ≤ l.left.next;
   most : l.left.next ≤ 9007199254740992;
   kept : l.catalog ≡ l.initial.catalog;
+  comes : ComesFrom l.initial.catalog.graphs l.initial.catalog.next l.left.next l.left.graph;
+  along : (next : ℕ) → next ≤ l.fn.first.next → ComesFrom l.initial.catalog.graphs next l.fn.first.next l.fn.first.graph → ComesFrom l.initial.catalog.graphs next l.left.next l.left.graph;
   leads : (outcome : Result Made Fault) → Joined (scope_in l.session) l.initial.catalog.graphs l.left (row (map (next_term_tree (names_in l.session)) (drop l.later-index l.rest))) outcome
       → Joined (scope_in l.session) l.initial.catalog.graphs l.fn.first (row (map (next_term_tree (names_in l.session)) l.rest)) outcome;
 }
