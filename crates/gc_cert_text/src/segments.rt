@@ -3,7 +3,8 @@ ghost use Rattle.std.specs.Prelude.{◌≡◌, not, IfOk};
 ghost use Rattle.gc_base.specs.Words.{is_reserved};
 ghost use Rattle.serde_json.specs.View.{view};
 ghost use Rattle.gc_cert_text.specs.Options.{if_so};
-ghost use Rattle.gc_cert_text.specs.SegmentsOfGraphs.{are_segments_of, is_name, is_segment_cost, is_segment_of, name_in, segment_cost_in, segment_in, segments_in, view_in};
+ghost use Rattle.gc_cert_text.specs.SegmentsOfGraphs.{are_segments_of, is_name, is_segment_cost, is_segment_of};
+ghost use Rattle.gc_cert_text.specs.SegmentsOfGraphs.{name_in, segment_cost_in, segment_in, segments_in, view_in};
 
 use crate::graph_walks::is_walk;
 use crate::lists::{Told, list_at};

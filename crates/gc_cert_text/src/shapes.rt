@@ -7,7 +7,8 @@ ghost use Rattle.serde_json.specs.Find.{get};
 ghost use Rattle.serde_json.specs.View.{view, items_view, members_view};
 ghost use Rattle.gc_cert_text.specs.Options.{array_at};
 ghost use Rattle.gc_cert_text.specs.Shapes.{has_keys, each_is, has_array, is_odd};
-ghost use Rattle.gc_cert_text.specs.Shapes.{has_potential_shape, has_segment_shape, has_move_shape, has_walk_shape, has_search_arrays, has_search_shape, has_document_shape};
+ghost use Rattle.gc_cert_text.specs.Shapes.{has_potential_shape, has_segment_shape, has_move_shape};
+ghost use Rattle.gc_cert_text.specs.Shapes.{has_walk_shape, has_search_arrays, has_search_shape, has_document_shape};
 
 use serde_json::{Map, Value};
 
