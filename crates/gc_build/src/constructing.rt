@@ -77,7 +77,7 @@ pub(crate) fn constructed<L: Ledger>(
 }
 
 /// The graph that a CONSTRUCT makes of a table which its recipe fits whole, and the identity that comes next.
-/// There always is one, so it is refused as `Fault` or as `IdsSpent` alone, where `construct` is.
+/// There always is one: it is refused as `Fault` or as `IdsSpent` exactly where `construct` is, or for want of memory.
 pub fn construct_whole<L: Ledger>(
     setting: &Setting<'_>,
     recipe: &Recipe,
