@@ -21,6 +21,7 @@ use Rattle.gc_alg.specs.Trees.{Tree, ABlock, APart, RowOf, BlockOf, PartOf, atom
 use Rattle.gc_alg.specs.declared.atom.Atom.{Atom}
 use Rattle.gc_alg.specs.declared.atom.AtomWhat.{AtomWhat}
 use Rattle.gc_alg.proofs.Schemas.{with_atom_listed}
+use Rattle.gc_build.specs.Linked.{IsFirst}
 
 -- an atom of some, that has a variable
 pub record HasAtom (atoms : List Atom) (x : Sym) : Type 0 where
@@ -143,6 +144,37 @@ module _ (db : Database) (all : List (Tree APart)) (reads : List ReadUse) where
       (outer_sound Left (IsRowOfPart db [] reads part) left (λ r k. part_sound part (among part (contains_here part (items later))) r k))
       later (λ p m. among p (contains_later part (items later) p m)) row h
 
+  -- a row that has all of one that meets the atoms of a part meets them too
+  module _ (first : Tree APart) where
+    record Keeps (row : List Binding) : Type 0 where
+      sound : IsSound row
+      meets : AllByRecursion (Satisfies db row) (atoms_of first)
+
+    outer_keeps : (Left Right : List Binding → Type 0) → ((row : List Binding) → Left row → Keeps row) → ((row : List Binding) → Right row → IsSound row)
+        → (row : List Binding) → IsOuterJoined Left Right row → Keeps row
+    outer_keeps Left Right left right row (inl j) =
+        let l = left j.left_row j.left in
+        let r = right j.right_row j.right in
+        record {
+          sound = joined_sound Left Right (λ q h. (left q h).sound) right row j;
+          meets = subst (λ (q : List Binding). AllByRecursion (Satisfies db q) (atoms_of first)) (sym j.union)
+              (met_too db j.left_row (row_union j.left_row j.right_row) (has_left j.left_row j.right_row l.sound.up r.up j.compatible) (atoms_of first) l.meets);
+        }
+    outer_keeps Left Right left right row (inr a) = left row a.left
+
+    with_keeps : (Left : List Binding → Type 0) → ((row : List Binding) → Left row → Keeps row) → (later : Tree (RowOf APart))
+        → ((p : Tree APart) → Contains (items later) p → Contains all p) → (row : List Binding) → IsRowWith db [] reads Left later row → Keeps row
+    unfolding IsRowOfBlock IsRowWith items
+    with_keeps Left left none among row h = left row h
+    with_keeps Left left (more part later) among row h =
+        with_keeps (IsOuterJoined Left (IsRowOfPart db [] reads part))
+        (outer_keeps Left (IsRowOfPart db [] reads part) left (λ r k. part_sound part (among part (contains_here part (items later))) r k))
+        later (λ p m. among p (contains_later part (items later) p m)) row h
+
+  part_meets : (part : Tree APart) → Contains all part → (row : List Binding) → IsRowOfPart db [] reads part row → Keeps part row
+  unfolding IsRowOfBlock IsRowOfPart
+  part_meets (PartOf atoms conjuncts) among row h = record { sound = part_sound (PartOf atoms conjuncts) among row h; meets = h.0.meets }
+
   no_datum : {P : Type 0} (x : Sym) (d : Datum) → datum_at [] x ≡ Some d → P
   no_datum x d h = absurd (cc h)
 
@@ -158,3 +190,14 @@ pub bound_is_met : (db : Database) (block : Tree ABlock) (row : List Binding) �
     → IsMet db (items (parts_of block)) row x
 unfolding IsRowOfBlock
 bound_is_met db (BlockOf parts reads) row h x d k = (parts_sound db (items parts) reads parts (λ p m. m) row h).met x d k
+
+-- and it meets all atoms of the first part
+pub first_is_met : (db : Database) (block : Tree ABlock) (row : List Binding) → IsRowOfBlock db [] block row → (part : Tree APart) → IsFirst (items (parts_of block)) part
+    → AllByRecursion (Satisfies db row) (atoms_of part)
+unfolding IsRowOfBlock IsRowOfParts items
+first_is_met db (BlockOf none reads) row h part is = absurd is
+first_is_met db (BlockOf (more first later) reads) row h part is =
+    let all = first ∷ items later in
+    let keeps = with_keeps db all reads first (IsRowOfPart db [] reads first) (λ r k. part_meets db all reads first (contains_here first (items later)) r k) later
+        (λ p m. contains_later first (items later) p m) row h in
+    subst (λ (p : Tree APart). AllByRecursion (Satisfies db row) (atoms_of p)) is keeps.meets

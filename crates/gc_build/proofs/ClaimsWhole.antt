@@ -171,12 +171,12 @@ walked_has paths (q ∷ more) p m =
     added true is = is
     added false is = at_end paths
 
-abbrev source_of : ElementShape → ℕ
+abbrev pub source_of : ElementShape → ℕ
 source_of NodeShape = 0
 source_of (EdgeShape from to) = from
 source_of (PathShape walk) = 0
 
-abbrev target_of : ElementShape → ℕ
+abbrev pub target_of : ElementShape → ℕ
 target_of NodeShape = 0
 target_of (EdgeShape from to) = to
 target_of (PathShape walk) = 0

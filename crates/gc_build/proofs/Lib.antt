@@ -9,6 +9,7 @@ pub mod Distinct
 pub mod Filters
 pub mod InstanceData
 pub mod InstanceLaws
+pub mod LinksWhole
 pub mod Members
 pub mod NameLists
 pub mod NamedLaws

@@ -3,6 +3,7 @@ pub mod Claimed
 pub mod Constructed
 pub mod Fitting
 pub mod Kept
+pub mod Linked
 pub mod Makers
 pub mod Makings
 pub mod Names

@@ -29,9 +29,9 @@ const END: u64 = 9_007_199_254_740_992;
 /// identities from `next` on. It is refused as `Fault` exactly where an assignment is undefined on a row
 /// of a group of its variable, and else as `IdsSpent` exactly where the new identities would pass the
 /// largest. There is `None` exactly where what it claims is no graph. What lies on the walks of an ALL path
-/// is looked for by the block of the MATCH and the segments of views on its graphs. Each element of the graph
-/// has the identity, kind, ends and walk of one of the graphs, or an identity from `next` on. `steps` counts
-/// what is read.
+/// is looked for by the block of the MATCH and the segments of views on its graphs. Where the recipe fits the
+/// table, each element of the graph has the identity, kind, ends and walk of one of the graphs, or an identity
+/// from `next` on. `steps` counts what is read.
 pub fn construct<L: Ledger>(
     setting: &Setting<'_>,
     recipe: &Recipe,
@@ -42,25 +42,8 @@ pub fn construct<L: Ledger>(
 ) -> Result<Option<Built>, Refusal>
     requires segments { AreOnGraphs setting.now.graphs segments.now }
     requires searchable { AreSearchable (block_tree block.now) }
-    requires fits { Fits setting.now recipe.now }
     ensures made { Constructs setting.now recipe.now (record { block = block_tree block.now; segments = segments.now }) next result }
-    ensures comes { IfOk result (λ made. IfSome made (λ b. ComesFrom setting.now.graphs next b.next b.graph)) }
-{
-    constructed(setting, recipe, block, segments, next, steps)
-}
-
-/// The same on any table.
-pub(crate) fn constructed<L: Ledger>(
-    setting: &Setting<'_>,
-    recipe: &Recipe,
-    block: &Block,
-    segments: &SegmentTable,
-    next: u64,
-    steps: &mut Steps<L>,
-) -> Result<Option<Built>, Refusal>
-    requires segments { AreOnGraphs setting.now.graphs segments.now }
-    requires searchable { AreSearchable (block_tree block.now) }
-    ensures { Constructs setting.now recipe.now (record { block = block_tree block.now; segments = segments.now }) next result }
+    ensures comes { Fits setting.now recipe.now → IfOk result (λ made. IfSome made (λ b. ComesFrom setting.now.graphs next b.next b.graph)) }
 {
     let patterns = Patterns { block, segments };
     let told = all_due(setting, recipe, &patterns, next, steps)?;

@@ -1,10 +1,12 @@
-ghost use Rattle.std.specs.Prelude.{ℕ, List, []};
+ghost use Rattle.std.specs.Prelude.{◌≡◌, ℕ, List, []};
 ghost use Rattle.std.specs.List.{AllByRecursion};
+ghost use Rattle.gc_alg.specs.Blocks.{IsRowOfBlock};
 ghost use Rattle.gc_alg.specs.Tables.{IsTableOfBlock};
 ghost use Rattle.gc_alg.specs.Trees.{ABlock, Tree};
 ghost use Rattle.gc_build.specs.AllPaths.{Patterns};
 ghost use Rattle.gc_build.specs.Constructed.{AreDue, IsBuilt};
 ghost use Rattle.gc_build.specs.Fitting.{BindsNodes, Fits, FitsWhole};
+ghost use Rattle.gc_build.specs.Linked.{HasLinksOf};
 ghost use Rattle.gc_build.specs.declared.built.Built.{Built};
 ghost use Rattle.gc_build_numbers.specs.Settings.{Setting};
 ghost use Rattle.gc_build_recipe.specs.Recipes.{Recipe};
@@ -12,7 +14,7 @@ ghost use Rattle.gc_prod.specs.Segments.{Segments};
 ghost use Rattle.gc_rows.specs.Tables.{Relation};
 ghost use Rattle.gc_sets.specs.Agreed.{AreOfOneGraph};
 ghost use Rattle.gc_sets.specs.Claims.{Claims};
-ghost use Rattle.gc_sets.specs.Origins.{ComesFrom};
+ghost use Rattle.gc_sets.specs.Origins.{AreStanding, ComesFrom};
 ghost use Rattle.gc_spec.specs.PropertyGraph.{IsGraph, PropertyGraph};
 ghost use Rattle.gc_walks.specs.Databases.{AreOnGraphs, database};
 
@@ -36,4 +38,13 @@ pub fn what_is_built_comes_from_the_graphs()
 pub fn what_is_claimed_where_a_recipe_fits_is_of_one_graph()
     ensures { (s : Setting) (r : Recipe) (ps : Patterns) (next : ℕ) (c : Claims) → FitsWhole s r ps next → AreOnGraphs s.graphs ps.segments
         → AreDue s r ps next c → AreOfOneGraph c }
+{}
+
+/// A recipe fits the rows of a block whole where its links are those of the block: where the graphs stand together,
+/// an edge that the MATCH binds stands between the nodes between which a pattern of the MATCH has it, the ends of a new edge
+/// are nodes of its chain, and walks are read on the graph on which their pattern stands.
+pub fn a_recipe_with_the_links_of_its_block_fits_whole()
+    ensures { (s : Setting) (r : Recipe) (ps : Patterns) (next : ℕ) → Fits s r → AreStanding s.graphs next → AreOnGraphs s.graphs ps.segments
+        → AllByRecursion (IsRowOfBlock (database s.graphs ps.segments) [] ps.block) s.rows → AllByRecursion (λ read. read.own ≡ read.walk) s.reads
+        → HasLinksOf ps.block s.reads r → FitsWhole s r ps next }
 {}

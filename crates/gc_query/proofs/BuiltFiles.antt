@@ -1,22 +1,38 @@
 -- A query file whose expressions have parts, and that breaks no sort rule, is built.
-use Rattle.std.proofs.Common.{◌≡◌, ℕ, zero, suc, ◌+◌, true, List, [], ◌∷◌, ◌++◌, take, drop, None, refl}
-use Rattle.std.specs.List.{list_all}
+use Rattle.std.proofs.Common.{◌≡◌, inl, inr, ⊎_elim, ◌⊎◌, ℕ, zero, suc, ◌+◌, true, List, [], ◌∷◌, ◌++◌, length, take, drop, None, refl, sym, subst, ◌∙◌, arith}
+use Rattle.std.specs.List.{AllByRecursion, Contains, flat_map, list_any}
+use Rattle.std.proofs.lemmas.List.Elements.{Contains-append_cases}
+use Rattle.gc_ast.specs.Names.{same_name}
+use Rattle.gc_rows.proofs.Members.{from_map, of_member}
 use Rattle.gc_base.specs.declared.place.Sym.{Sym}
 use Rattle.gc_expr.specs.Trees.{TreeOf, AnExpr, renamed}
 use Rattle.gc_ast.specs.Trees as tree
-use Rattle.gc_ast.specs.Trees.{Kind, Tree, AStatement, AQuery, ATerm, AFormula, ABasic, ABlock, AnOptional, RowOf, row}
+use Rattle.gc_ast.specs.Trees.{Kind, Tree, AStatement, AQuery, ATerm, AFormula, ABasic, ABlock, AnItem, AnOptional, RowOf, row}
 use Rattle.gc_values.specs.declared.reads.ReadUse.{ReadUse}
-use Rattle.gc_sorts.specs.SortRules.{Sights, behind, behind_all, breaches, first_breach, seen_in}
+use Rattle.gc_sorts.specs.Constructs.{item_made, item_stored}
+use Rattle.gc_sorts.specs.Occurrences.{Occurrences, occurrences}
+use Rattle.gc_sorts.specs.Reads.{hidden_from}
+use Rattle.gc_sorts.specs.Scopes as occurrence
+use Rattle.gc_sorts.specs.SortRules.{Sights, behind, behind_all, breaches, construct_breaches, first_breach, graphs_in, match_breaches, seen_in}
+use Rattle.gc_sorts.specs.Uses.{all_of, block_uses, optional_uses}
+use Rattle.gc_sorts.specs.Variables.{Use, use_names}
 use Rattle.gc_alg.specs.Trees as alg
 use Rattle.gc_alg.specs.Trees.{AnExists}
 use Rattle.gc_lower.specs.Blocks.{block_atoms, block_of, optional_parts, part_of, queries_of, query_block, sight, term_block, where_conjuncts}
 use Rattle.gc_lower.specs.Chains.{atoms_of}
 use Rattle.gc_lower.specs.Conditions.{and_parts, dealt, exists_count}
-use Rattle.gc_lower.specs.Namings.{QueryFile, scope_in}
+use Rattle.gc_lower.specs.Namings.{QueryFile, occurrences_of, scope_in}
 use Rattle.gc_lower.specs.Reads.{reads_of}
 use Rattle.gc_lower.specs.Scopes.{Scope, variable_of}
-use Rattle.gc_query.specs.Built.{are_searched, built, is_built}
+use Rattle.gc_query.specs.Built.{AreBuilt, IsBasicBuilt, IsBuilt, are_searched}
 use Rattle.gc_query.specs.Expressions.{EachExpression, EachHasParts}
+use Rattle.gc_query.specs.InOrder.{IsInOrder}
+use Rattle.gc_query.proofs.BasicLinks.{IsDistinctBasic, all_names, all_tokens, basic_links, match_tokens, optional_tokens, site_token}
+use Rattle.gc_query.proofs.HiddenLaws.{IsUnnamedIn, are_apart}
+use Rattle.gc_query.proofs.InOrderLaws.{items_made_named, items_sites_lie, match_fine}
+use Rattle.gc_query.proofs.MakeSites.{sites_of}
+use Rattle.gc_query.proofs.MatchParts.{block_tokens}
+use Rattle.gc_query.proofs.OccurrenceLaws.{block_in, items_in, optionals_in}
 use Rattle.gc_query.proofs.PlanRuns.{left, right}
 use Rattle.gc_query.proofs.SearchedAtoms.{IsUnbroken, both_true, located_searched, unbroken}
 
@@ -89,31 +105,96 @@ mutual
   term_searched s v around (tree.GraphTerm g) parts h = refl
   term_searched s v around (tree.QueryTerm query) parts h = refl
 
--- each tree, whatever is in scope
-built_of : (s : Scope) {k : Kind} (v : Sights) (t : Tree k) → EachHasParts t → IsUnbroken (breaches v t) → built s t ≡ true
-unfolding EachExpression breaches built
-built_of s v (tree.Ask query) parts h = built_of s v query parts h
-built_of s v (tree.View g query) parts h = built_of s v query parts h.1
-built_of s v (tree.Query heads first rest) parts h =
-    both_true (built s heads) _ (built_of s v heads parts.0 h.0)
-    (both_true (built s first) _ (built_of s (behind_all v heads) first parts.1 h.1.0) (built_of s (behind_all v heads) rest parts.2 h.1.1))
-built_of s v (tree.PathHead name chains filter cost) parts h = refl
-built_of s v (tree.GraphHead g query) parts h = built_of s v query parts h.1
-built_of s v (tree.BasicTerm basic) parts h = block_searched s v [] basic parts h
-built_of s v (tree.GraphTerm g) parts h = refl
-built_of s v (tree.QueryTerm query) parts h = built_of s v query parts h
-built_of s v (tree.NextTerm op term) parts h = built_of s v term parts h
-built_of s v tree.none parts h = refl
-built_of s v (tree.more t ts) parts h = both_true (built s t) _ (built_of s v t parts.0 h.0) (built_of s (behind v t) ts parts.1 h.1)
-built_of s v other parts h = refl
+-- what is seen of the blocks around stays es it is
+behind_uses : {k : Kind} (v : Sights) (t : Tree k) → (behind v t).uses ≡ v.uses
+behind_uses v (tree.View g query) = refl
+behind_uses v (tree.GraphHead g query) = refl
+behind_uses v (tree.PathHead name chains filter cost) = refl
+behind_uses v other = refl
 
-each_built : (s : Scope) (statements : List (Tree AStatement)) → built s (row statements) ≡ true → list_all (built s) statements ≡ true
-unfolding built
-each_built s [] h = refl
-each_built s (t ∷ ts) h = both_true (built s t) _ (left (built s t) (built s (row ts)) h) (each_built s ts (right (built s t) (built s (row ts)) h))
+all_behind : {k : Kind} (v : Sights) (ts : Tree (RowOf k)) → (behind_all v ts).uses ≡ v.uses
+all_behind v tree.none = refl
+all_behind v (tree.more t ts) = all_behind (behind v t) ts ∙ behind_uses v t
+
+-- a file, by the occurrences in which its unnamed elements are
+module _ (s : Scope) (os : Occurrences) (is : (t : ℕ) → s.hidden_at t ≡ hidden_from (length s.names) os t) where
+  -- the names, the elements and the places of a CONSTRUCT are told apart
+  distinct : (o : occurrence.Scope) (token : ℕ) (items : Tree (RowOf AnItem)) (main : Tree ABlock) (optionals : Tree (RowOf AnOptional)) (from upto : ℕ)
+      → IsInOrder s.names from (tree.Basic token items main optionals) upto → ((n : ℕ) → IsUnnamedIn n (occurrences o (tree.Basic token items main optionals)) → IsUnnamedIn n os)
+      → IsDistinctBasic s items main optionals
+  unfolding IsInOrder occurrences
+  distinct o token items main optionals from upto order whole =
+      let mid : ℕ = order.0 in
+      let sites = items_sites_lie s.names s from items mid order.2 in
+      let match = match_fine s.names s mid order.1 main optionals upto order.3 order.4 in
+      let made = items_made_named s.names from items mid order.2 in
+      let uses = block_uses main ++ all_of optional_uses optionals in
+      record {
+        apart = are_apart s os is (all_names items main optionals) (all_tokens s items main optionals)
+            (λ n m. ⊎_elim
+            (λ k. let u = from_map (λ (w : Use). w.name) uses n k in subst (λ x. list_any (same_name x) s.names ≡ true) (sym u.2) (of_member (λ (w : Use). list_any (same_name w.name) s.names ≡ true) uses u.0 match.fine.named u.1))
+            (λ k. ⊎_elim
+            (λ l. let u = from_map (λ (w : Use). w.name) (all_of item_made items) n l in
+            subst (λ x. list_any (same_name x) s.names ≡ true) (sym u.2) (of_member (λ (w : Use). list_any (same_name w.name) s.names ≡ true) (all_of item_made items) u.0 made u.1))
+            (λ l. sites.stored_named n l)
+            (Contains-append_cases (use_names (all_of item_made items)) (all_of item_stored items) n k))
+            (Contains-append_cases (use_names uses) (use_names (all_of item_made items) ++ all_of item_stored items) n m))
+            (λ t m. whole t (⊎_elim
+            (λ k. inr (⊎_elim (λ l. inl (block_in o main t l)) (λ l. inr (optionals_in (occurrence.behind o main) optionals t l)) (Contains-append_cases (block_tokens main) (all_of optional_tokens optionals) t k)))
+            (λ k. inl (items_in s o items t k))
+            (Contains-append_cases (match_tokens main optionals) (flat_map site_token (sites_of s items)) t m)));
+        places = match.places_lie.one;
+        sites = sites.tokens.one;
+        named_sites = λ a b k l x y e f g. sites.one_named a b x y k l e f g;
+        sides = λ t a k l e. let low = match.fine.unnamed.low t k in let high = sites.tokens.high a l in absurd (omega (arith, low, high, e));
+      }
+
+  abbrev Among : Occurrences → Type 0
+  Among part = (n : ℕ) → IsUnnamedIn n part → IsUnnamedIn n os
+
+  basic_built : (v : Sights) → v.uses ≡ [] → (o : occurrence.Scope) (basic : Tree ABasic) (from upto : ℕ) → EachHasParts basic → IsUnbroken (breaches v basic) → IsInOrder s.names from basic upto
+      → Among (occurrences o basic) → IsBasicBuilt s basic
+  unfolding breaches
+  basic_built v none o (tree.Basic token items main optionals) from upto parts h order among = record {
+    searched = block_searched s v [] (tree.Basic token items main optionals) parts h;
+    links = basic_links s (graphs_in v) token items main optionals (distinct o token items main optionals from upto order among)
+        (subst (λ us. IsUnbroken (match_breaches us main optionals)) none h.0) (subst (λ us. IsUnbroken (construct_breaches (graphs_in v) us items main optionals)) none h.1.0);
+  }
+
+  -- each tree, whatever is in scope
+  built_of : {k : Kind} (v : Sights) → v.uses ≡ [] → (o : occurrence.Scope) (t : Tree k) (from upto : ℕ) → EachHasParts t → IsUnbroken (breaches v t) → IsInOrder s.names from t upto → Among (occurrences o t)
+      → IsBuilt s t
+  unfolding EachExpression breaches IsBuilt IsInOrder occurrences
+  built_of v none o (tree.Ask query) from upto parts h order among = built_of v none o query from upto parts h order among
+  built_of v none o (tree.View g query) from upto parts h order among = built_of v none o query from upto parts h.1 order among
+  built_of v none o (tree.Query heads first rest) from upto parts h order among =
+      let later = all_behind v heads ∙ none in (
+        built_of v none o heads from order.0 parts.0 h.0 order.2 (λ n k. among n (inl k)),
+        built_of (behind_all v heads) later (occurrence.behind o heads) first order.0 order.1 parts.1 h.1.0 order.3 (λ n k. among n (inr (inl k))),
+        built_of (behind_all v heads) later (occurrence.behind (occurrence.behind o heads) first) rest order.1 upto parts.2 h.1.1 order.4 (λ n k. among n (inr (inr k))),
+      )
+  built_of v none o (tree.PathHead name chains filter cost) from upto parts h order among = tt
+  built_of v none o (tree.GraphHead g query) from upto parts h order among = built_of v none o query from upto parts h.1 order among
+  built_of v none o (tree.BasicTerm basic) from upto parts h order among = basic_built v none o basic from upto parts h order among
+  built_of v none o (tree.GraphTerm g) from upto parts h order among = tt
+  built_of v none o (tree.QueryTerm query) from upto parts h order among = built_of v none o query from upto parts h order among
+  built_of v none o (tree.NextTerm op term) from upto parts h order among = built_of v none o term from upto parts h order among
+  built_of v none o tree.none from upto parts h order among = tt
+  built_of v none o (tree.more t ts) from upto parts h order among = (
+    built_of v none o t from order.0 parts.0 h.0 order.1 (λ n k. among n (inl k)),
+    built_of (behind v t) (behind_uses v t ∙ none) (occurrence.behind o t) ts order.0 upto parts.1 h.1 order.2 (λ n k. among n (inr k)),
+  )
+  built_of v none o other from upto parts h order among = tt
+
+each_built : (s : Scope) (statements : List (Tree AStatement)) → IsBuilt s (row statements) → AllByRecursion (IsBuilt s) statements
+unfolding IsBuilt
+each_built s [] h = tt
+each_built s (t ∷ ts) h = (h.0, each_built s ts h.1)
 
 -- the law of files
-pub file_built : (f : QueryFile) → EachHasParts (row f.statements) → first_breach f.graphs (row f.statements) ≡ None → is_built f ≡ true
-file_built f parts h =
+pub file_built : (f : QueryFile) (upto : ℕ) → EachHasParts (row f.statements) → IsInOrder f.names 0 (row f.statements) upto → first_breach f.graphs (row f.statements) ≡ None → AreBuilt f
+unfolding scope_in
+file_built f upto parts order h =
     each_built (scope_in f 0) f.statements
-    (built_of (scope_in f 0) (record { loaded = f.graphs; declared = []; views = []; uses = [] }) (row f.statements) parts (unbroken _ h))
+    (built_of (scope_in f 0) (occurrences_of f) (λ t. refl) (record { loaded = f.graphs; declared = []; views = []; uses = [] }) refl (occurrence.outside f.graphs) (row f.statements) 0 upto parts (unbroken _ h) order
+    (λ n k. k))

@@ -1,28 +1,40 @@
-pub mod AllOf
 mod AllPathsSearched
 mod BasicsMade
-pub mod BuiltFiles
-pub mod BuiltParts
 mod BuiltRests
 mod CostLaws
 mod DistinctVariables
 mod FreeWords
 mod Heads
-pub mod Joining
-pub mod OneGraph
 mod OneOutcome
 mod OneView
-pub mod Origins
 mod Outcomes
 mod PathHeads
-pub mod PlainParts
 mod PlainViews
 mod PlanRuns
 mod QueriesWhole
-pub mod QueryParts
 mod SearchedAtoms
 mod Standings
 mod StepLaws
 mod TablesMade
 mod UsesLaws
 mod ViewsMade
+pub mod AllOf
+pub mod BasicLinks
+pub mod BuiltFiles
+pub mod BuiltParts
+pub mod HiddenLaws
+pub mod InOrderLaws
+pub mod Joining
+pub mod MakeLinks
+pub mod MakeSites
+pub mod MakeSorts
+pub mod MatchLinks
+pub mod MatchParts
+pub mod MatchPlaces
+pub mod MatchReads
+pub mod MatchSorts
+pub mod OccurrenceLaws
+pub mod OneGraph
+pub mod Origins
+pub mod PlainParts
+pub mod QueryParts

@@ -24,7 +24,7 @@ use Rattle.gc_query.specs.Sessions.{Answer, Answers, AnswersAsk, AnswersView}
 use Rattle.gc_query.specs.Standings.{Standing, Made}
 use Rattle.gc_query.specs.declared.fault.Fault.{Fault}
 use Rattle.gc_query.specs.declared.costs.PastAt.{PastAt}
-use Rattle.gc_query.specs.declared.fault.Fault.TheVariants.{BadCost, CostPastRange, Undefined, IdsSpent, NoGraph}
+use Rattle.gc_query.specs.declared.fault.Fault.TheVariants.{BadCost, CostPastRange, Undefined, IdsSpent}
 use Rattle.gc_query.proofs.OneView.{one_segments}
 use Rattle.gc_query.proofs.Outcomes.{one_then}
 use Rattle.gc_query.proofs.TablesMade.{one_table}
@@ -55,32 +55,23 @@ module _ (s : Setting) (r : Recipe) (ps : Patterns) (next : ℕ) where
       same_made a b (same_built (record { graph = a.graph; next = a.next }) (record { graph = b.graph; next = b.next }) p q) (p.after ∙ sym q.after)
   one_coming token (Ok a) (Err (Undefined at row why)) p q = let d = p.sound.defined in absurd (cc)
   one_coming token (Ok a) (Err (IdsSpent at needed)) p q = let room = p.sound.room in absurd (omega (arith, room, q.1.needs, q.1.spent))
-  one_coming token (Ok a) (Err NoGraph) p q = absurd (not_both (record { graph = a.graph; next = a.next }) p q)
   one_coming token (Err (Undefined at row why)) (Ok b) p q = let d = q.sound.defined in absurd (cc)
   one_coming token (Err (Undefined at row why)) (Err (Undefined at' row' why')) p q =
       let same = same_Some _ _ (sym p ∙ q) in
       λ i. Err (Undefined (same i).at (same i).row (same i).why)
   one_coming token (Err (Undefined at row why)) (Err (IdsSpent at' needed)) p q = let d = q.1.defined in absurd (cc)
-  one_coming token (Err (Undefined at row why)) (Err NoGraph) p q = let d = q.sound.defined in absurd (cc)
   one_coming token (Err (IdsSpent at needed)) (Ok b) p q = let room = q.sound.room in absurd (omega (arith, room, p.1.needs, p.1.spent))
   one_coming token (Err (IdsSpent at needed)) (Err (Undefined at' row why)) p q = let d = p.1.defined in absurd (cc)
   one_coming token (Err (IdsSpent at needed)) (Err (IdsSpent at' needed')) p q =
       let there : at ≡ at' = p.0 ∙ sym q.0 in
       let many : needed ≡ needed' = p.1.needs ∙ sym q.1.needs in
       λ i. Err (IdsSpent (there i) (many i))
-  one_coming token (Err (IdsSpent at needed)) (Err NoGraph) p q = let room = q.sound.room in absurd (omega (arith, room, p.1.needs, p.1.spent))
-  one_coming token (Err NoGraph) (Ok b) p q = absurd (not_both (record { graph = b.graph; next = b.next }) q p)
-  one_coming token (Err NoGraph) (Err (Undefined at row why)) p q = let d = p.sound.defined in absurd (cc)
-  one_coming token (Err NoGraph) (Err (IdsSpent at needed)) p q = let room = p.sound.room in absurd (omega (arith, room, q.1.needs, q.1.spent))
-  one_coming token (Err NoGraph) (Err NoGraph) p q = refl
   one_coming token (Ok a) (Err (BadCost at walk)) p q = absurd q
   one_coming token (Ok a) (Err (CostPastRange at row)) p q = absurd q
   one_coming token (Err (Undefined at row why)) (Err (BadCost at' walk)) p q = absurd q
   one_coming token (Err (Undefined at row why)) (Err (CostPastRange at' row')) p q = absurd q
   one_coming token (Err (IdsSpent at needed)) (Err (BadCost at' walk)) p q = absurd q
   one_coming token (Err (IdsSpent at needed)) (Err (CostPastRange at' row)) p q = absurd q
-  one_coming token (Err NoGraph) (Err (BadCost at walk)) p q = absurd q
-  one_coming token (Err NoGraph) (Err (CostPastRange at row)) p q = absurd q
   one_coming token (Err (BadCost at walk)) b p q = absurd p
   one_coming token (Err (CostPastRange at row)) b p q = absurd p
 

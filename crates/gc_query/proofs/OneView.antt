@@ -20,7 +20,7 @@ use Rattle.gc_query.specs.Outcomes.{Then}
 use Rattle.gc_query.specs.Segments.{Declared, HasSegments, IsOfView, OfHead, OfRows, OfUses, OfView, block_on, declared, entry, is_view, uses_of_block, view_on}
 use Rattle.gc_query.specs.UsedViews.{UsedView}
 use Rattle.gc_query.specs.declared.fault.Fault.{Fault}
-use Rattle.gc_query.specs.declared.fault.Fault.TheVariants.{BadCost, CostPastRange, IdsSpent, NoGraph, Undefined}
+use Rattle.gc_query.specs.declared.fault.Fault.TheVariants.{BadCost, CostPastRange, IdsSpent, Undefined}
 use Rattle.gc_query.proofs.Outcomes.{one_then}
 use Rattle.gc_query.proofs.TablesMade.{one_table}
 
@@ -87,7 +87,6 @@ module _ (v : View) where
   one_of_rows token table (Ok xs) (Err (Undefined at row why)) p q = absurd q
   one_of_rows token table (Ok xs) (Err (CostPastRange at row)) p q = absurd q
   one_of_rows token table (Ok xs) (Err (IdsSpent at needed)) p q = absurd q
-  one_of_rows token table (Ok xs) (Err NoGraph) p q = absurd q
   one_of_rows token table (Err (BadCost at walk)) (Ok ys) p q = absurd (not_both table.rows ys walk q p.1)
   one_of_rows token table (Err (BadCost at walk)) (Err (BadCost at' other)) p q =
       let there : at ≡ at' = p.0 ∙ sym q.0 in
@@ -96,11 +95,9 @@ module _ (v : View) where
   one_of_rows token table (Err (BadCost at walk)) (Err (Undefined at' row why)) p q = absurd q
   one_of_rows token table (Err (BadCost at walk)) (Err (CostPastRange at' row)) p q = absurd q
   one_of_rows token table (Err (BadCost at walk)) (Err (IdsSpent at' needed)) p q = absurd q
-  one_of_rows token table (Err (BadCost at walk)) (Err NoGraph) p q = absurd q
   one_of_rows token table (Err (Undefined at row why)) b p q = absurd p
   one_of_rows token table (Err (CostPastRange at row)) b p q = absurd p
   one_of_rows token table (Err (IdsSpent at needed)) b p q = absurd p
-  one_of_rows token table (Err NoGraph) b p q = absurd p
 
 module _ (s : Scope) (graphs : List PropertyGraph) where
   one_view : (graph : ℕ) (d : Declared) (a b : Result (List Segment) Fault) → IsOfView s graphs graph d a → IsOfView s graphs graph d b → a ≡ b

@@ -48,7 +48,7 @@ none_first found (both left right) h =
 pub unbroken : (bs : Breaches) → first_among None bs ≡ None → IsUnbroken bs
 unbroken bs h = (none_first None bs h).1
 
-not_broken : (b : Bool) (rule : SortRule) (token : ℕ) → IsUnbroken (broken_if b rule token) → b ≡ false
+pub not_broken : (b : Bool) (rule : SortRule) (token : ℕ) → IsUnbroken (broken_if b rule token) → b ≡ false
 not_broken true rule token h = absurd h
 not_broken false rule token h = refl
 

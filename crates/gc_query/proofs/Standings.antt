@@ -68,6 +68,13 @@ stands c is = record {
   below = λ g m id s t. of_member (λ k. k < c.next) (ids_of g) id (of_member (AreBelow c.next) c.graphs g is.below m) (id_there g id s (of_shape g id s t));
 }
 
+-- what stands where an identity is the next one stands where a later one is
+pub stands_later : (graphs : List PropertyGraph) (next after : ℕ) → next ≤ after → AreStanding graphs next → AreStanding graphs after
+stands_later graphs next after up h = record {
+  coherent = h.coherent;
+  below = λ g m id s t. let low = h.below g m id s t in omega (arith, low, up);
+}
+
 -- each identity of a graph has a shape
 entry_there : (g : PropertyGraph) (id : ℕ) → Contains (ids_of g) id → Contains (map (λ (e : ℕ × ElementShape). e.0) (shapes_of g)) id
 entry_there g id m =

@@ -1,6 +1,6 @@
 -- What a statement does to what stands, by what its query comes to.
-use Rattle.std.proofs.Common.{◌≡◌, ◌<◌, ◌&&◌, ℕ, zero, suc, Bool, true, false, List, [], ◌∷◌, map, length, get_or, Option, Some, Result, Ok, Err, refl, sym, ap, subst, ◌∙◌, slice_get}
-use Rattle.std.specs.List.{list_all}
+use Rattle.std.proofs.Common.{◌≡◌, ◌<◌, ℕ, zero, suc, List, [], ◌∷◌, map, length, get_or, Option, Some, Result, Ok, Err, refl, sym, ap, subst, ◌∙◌, slice_get}
+use Rattle.std.specs.List.{AllByRecursion}
 use Rattle.std.specs.Result.{IsErr, IsErrAnd}
 use Rattle.gc_ast.specs.QueryViews.{query_tree, statement_tree}
 use Rattle.gc_ast.specs.Trees.{Tree, AQuery, AStatement, Ask, View}
@@ -14,7 +14,7 @@ use Rattle.gc_expr.specs.Views.{Names}
 use Rattle.gc_lower.specs.Scopes.{Scope}
 use Rattle.gc_spec.specs.PropertyGraph.{PropertyGraph}
 use Rattle.gc_query.specs.Answered.{IsRefused}
-use Rattle.gc_query.specs.Built.{built}
+use Rattle.gc_query.specs.Built.{IsBuilt}
 use Rattle.gc_query.specs.Queries.{Denotes}
 use Rattle.gc_query.specs.Sessions.{Answers, Fails, Names as NamesGraph, Prints}
 use Rattle.gc_query.specs.Standings.{Made, Standing}
@@ -52,26 +52,18 @@ module _ (s : Scope) (at : Standing) (query : Tree AQuery) where
 
 -- which statements are built
 module _ (s : Scope) (names : Names) where
-  pub ask_built : (x : Statement) (q : Query) → x ≡ statement.Ask q → built s (statement_tree names x) ≡ true → built s (query_tree names q) ≡ true
-  unfolding built
-  ask_built x q is h = subst (λ y. built s (statement_tree names y) ≡ true) is h
+  pub ask_built : (x : Statement) (q : Query) → x ≡ statement.Ask q → IsBuilt s (statement_tree names x) → IsBuilt s (query_tree names q)
+  unfolding IsBuilt
+  ask_built x q is h = subst (λ y. IsBuilt s (statement_tree names y)) is h
 
-  pub view_built : (x : Statement) (name : NameAt) (q : Query) → x ≡ statement.View name q → built s (statement_tree names x) ≡ true → built s (query_tree names q) ≡ true
-  unfolding built
-  view_built x name q is h = subst (λ y. built s (statement_tree names y) ≡ true) is h
+  pub view_built : (x : Statement) (name : NameAt) (q : Query) → x ≡ statement.View name q → IsBuilt s (statement_tree names x) → IsBuilt s (query_tree names q)
+  unfolding IsBuilt
+  view_built x name q is h = subst (λ y. IsBuilt s (statement_tree names y)) is h
 
-one_of : {X : Type 0} (p : X → Bool) (xs : List X) (i : ℕ) (x : X) → slice_get xs i ≡ Some x → list_all p xs ≡ true → p x ≡ true
-one_of p [] i x at h = cc
-one_of p (y ∷ ys) zero x at h = let e : y ≡ x = cc in ap p (sym e) ∙ first (p y) (list_all p ys) h
-  where
-    first : (a b : Bool) → (a && b) ≡ true → a ≡ true
-    first true b h = refl
-    first false b h = h
-one_of p (y ∷ ys) (suc i) x at h = one_of p ys i x at (second (p y) (list_all p ys) h)
-  where
-    second : (a b : Bool) → (a && b) ≡ true → b ≡ true
-    second true b h = h
-    second false b h = cc
+one_of : {X : Type 0} (P : X → Type 0) (xs : List X) (i : ℕ) (x : X) → slice_get xs i ≡ Some x → AllByRecursion P xs → P x
+one_of P [] i x at h = cc
+one_of P (y ∷ ys) zero x at h = let e : y ≡ x = cc in subst P e h.0
+one_of P (y ∷ ys) (suc i) x at h = one_of P ys i x at h.1
 
 mapped_at : {X Y : Type 0} (f : X → Y) (xs : List X) (i : ℕ) (x : X) → slice_get xs i ≡ Some x → slice_get (map f xs) i ≡ Some (f x)
 mapped_at f [] i x at = cc
@@ -83,8 +75,8 @@ some_same x y h = cc
 
 module _ (s : Scope) (names : Names) (statements : List Statement) (i : ℕ) (x : Statement) (there : i < length statements) (is : x ≡ get_or statements i x) where
   -- the statement of a number is built, where all are; and it is the statement there
-  pub statement_built : list_all (built s) (map (statement_tree names) statements) ≡ true → built s (statement_tree names x) ≡ true
-  statement_built h = one_of (built s) (map (statement_tree names) statements) i (statement_tree names x) (mapped_at (statement_tree names) statements i x (got statements i x there is)) h
+  pub statement_built : AllByRecursion (IsBuilt s) (map (statement_tree names) statements) → IsBuilt s (statement_tree names x)
+  statement_built h = one_of (IsBuilt s) (map (statement_tree names) statements) i (statement_tree names x) (mapped_at (statement_tree names) statements i x (got statements i x there is)) h
 
   pub statement_is : (t : Tree AStatement) → slice_get (map (statement_tree names) statements) i ≡ Some t → statement_tree names x ≡ t
   statement_is t at = some_same (statement_tree names x) t (sym (mapped_at (statement_tree names) statements i x (got statements i x there is)) ∙ at)

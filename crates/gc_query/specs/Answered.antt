@@ -22,7 +22,7 @@ use Rattle.gc_views.specs.declared.fault.ViewFault.TheVariants as view
 use Rattle.gc_query.specs.Segments.{Declared, declared}
 use Rattle.gc_query.specs.Standings.{Standing, Made}
 use Rattle.gc_query.specs.declared.fault.Fault.{Fault}
-use Rattle.gc_query.specs.declared.fault.Fault.TheVariants.{Undefined, BadCost, IdsSpent, NoGraph}
+use Rattle.gc_query.specs.declared.fault.Fault.TheVariants.{Undefined, BadCost, IdsSpent}
 use Rattle.gc_query.specs.declared.fault.QueryRefusal.{QueryRefusal}
 use Rattle.gc_query.specs.declared.fault.QueryRefusal.TheVariants as refusal
 use Rattle.gc_query.specs.declared.path_views.PathView.{PathView}
@@ -39,9 +39,8 @@ IsAnswered IsDue (Ok x) = IsDue (Ok x)
 IsAnswered IsDue (Err refused) = IsRefused (λ fault. IsDue (Err fault)) refused
 
 -- what a CONSTRUCT at a token comes to, as the outcome of a query
-abbrev pub outcome_of : (token : ℕ) → Result (Option Built) Refusal → Result Made QueryRefusal
-outcome_of token (Ok (Some built)) = Ok (record { graph = built.graph; next = built.next })
-outcome_of token (Ok None) = Err (refusal.Fault NoGraph)
+abbrev pub outcome_of : (token : ℕ) → Result Built Refusal → Result Made QueryRefusal
+outcome_of token (Ok built) = Ok (record { graph = built.graph; next = built.next })
 outcome_of token (Err (build.Fault f)) = Err (refusal.Fault (Undefined f.at f.row f.why))
 outcome_of token (Err (build.IdsSpent needed)) = Err (refusal.Fault (IdsSpent token needed))
 outcome_of token (Err build.Memory) = Err refusal.Memory

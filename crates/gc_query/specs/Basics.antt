@@ -3,7 +3,7 @@ use Rattle.std.specs.Prelude.{◌≡◌, ℕ, List, [], Option, Some, None, Resu
 use Rattle.gc_alg.specs.Tables.{IsTableOfBlock}
 use Rattle.gc_alg.specs.Trees as alg
 use Rattle.gc_ast.specs.Trees.{Tree, ABasic, Basic}
-use Rattle.gc_build.specs.Constructed.{IsBuilt, IsSpent, IsUnfit, fault}
+use Rattle.gc_build.specs.Constructed.{IsBuilt, IsSpent, fault}
 use Rattle.gc_build.specs.AllPaths.{Patterns}
 use Rattle.gc_build_numbers.specs.Settings.{Setting}
 use Rattle.gc_build_reading.specs.FoundPaths.{found_variables}
@@ -19,7 +19,7 @@ use Rattle.gc_query.specs.Segments.{HasSegments}
 use Rattle.gc_query.specs.Standings.{Standing, Made}
 use Rattle.gc_query.specs.declared.costs.PastAt.{PastAt}
 use Rattle.gc_query.specs.declared.fault.Fault.{Fault}
-use Rattle.gc_query.specs.declared.fault.Fault.TheVariants.{Undefined, CostPastRange, IdsSpent, NoGraph}
+use Rattle.gc_query.specs.declared.fault.Fault.TheVariants.{Undefined, CostPastRange, IdsSpent}
 use Rattle.gc_rows.specs.Tables.{Relation}
 
 -- the token of the word CONSTRUCT
@@ -31,7 +31,6 @@ abbrev pub ComesTo : Setting → Recipe → Patterns → (next token : ℕ) → 
 ComesTo s r ps next token (Ok made) = IsBuilt s r ps next (record { graph = made.graph; next = made.next })
 ComesTo s r ps next token (Err (Undefined at row why)) = fault s r ≡ Some (record { at = at; row = row; why = why })
 ComesTo s r ps next token (Err (IdsSpent at needed)) = (at ≡ token) × IsSpent s r next needed
-ComesTo s r ps next token (Err NoGraph) = IsUnfit s r ps next
 ComesTo s r ps next token (Err fault) = ⊥
 
 -- a cost that is past the range comes before what the recipe comes to

@@ -1,12 +1,18 @@
 -- Which query files are built.
-use Rattle.std.specs.Prelude.{Bool, true, ◌&&◌, []}
-use Rattle.std.specs.List.{list_all}
+use Rattle.std.specs.Prelude.{◌≡◌, ⊤, Bool, true, ◌&&◌, []}
+use Rattle.std.specs.List.{AllByRecursion, list_all}
+use Rattle.gc_alg.specs.Tables.{block_variables}
 use Rattle.gc_alg.specs.Trees as alg
 use Rattle.gc_alg.specs.Trees.{ABlock, BlockOf, PartOf, ConjunctOf, ExistsOf}
 use Rattle.gc_alg.specs.declared.atom.AtomWhat.{AtomWhat}
 use Rattle.gc_alg.specs.declared.atom.AtomWhat.TheVariants as atom
 use Rattle.gc_ast.specs.Trees as ast
 use Rattle.gc_ast.specs.Trees.{Tree, AStatement, View, Ask, Query, NextTerm, BasicTerm, GraphTerm, QueryTerm, PathHead, GraphHead}
+use Rattle.gc_build.specs.Linked.{HasLinksOf}
+use Rattle.gc_build_reading.specs.FoundPaths.{found_variables}
+use Rattle.gc_build_reading.specs.Recipes.{recipe_of}
+use Rattle.gc_build_recipe.specs.Recipes.{Recipe}
+use Rattle.gc_rows.specs.Algebra.{joined_schema}
 use Rattle.gc_walks.specs.Expressions.{is_searchable}
 use Rattle.gc_lower.specs.Blocks.{block_of}
 use Rattle.gc_lower.specs.Namings.{QueryFile, scope_in}
@@ -31,21 +37,31 @@ are_searched (ExistsOf outer block tree) = are_searched block
 are_searched alg.none = true
 are_searched (alg.more t ts) = are_searched t && are_searched ts
 
--- a file is built but where an expression has no automaton, which the grammar and the sort rules let none have
-unfoldable pub built : {k : ast.Kind} → Scope → Tree k → Bool
-built s (Ask query) = built s query
-built s (View name query) = built s query
-built s (Query heads first rest) = built s heads && (built s first && built s rest)
-built s (PathHead name chains filter cost) = true
-built s (GraphHead name query) = built s query
-built s (BasicTerm basic) = are_searched (block_of s [] basic)
-built s (GraphTerm g) = true
-built s (QueryTerm query) = built s query
-built s (NextTerm op term) = built s term
-built s ast.none = true
-built s (ast.more t ts) = built s t && built s ts
-built s t = true
+-- what a CONSTRUCT asks for on the table of the block of its MATCH
+abbrev pub asked_on : Scope → ast.Tree ast.ABasic → alg.Tree ABlock → Recipe
+asked_on s basic block = recipe_of s (joined_schema [] (block_variables block)) (found_variables block) basic
 
--- whether a query file is built: each of its statements is
-abbrev pub is_built : QueryFile → Bool
-is_built f = list_all (built (scope_in f 0)) f.statements
+-- a CONSTRUCT is built where its MATCH looks for walks by expressions that have automata, and what it asks for has the links of the
+-- block: so what it claims is of one graph
+pub record IsBasicBuilt (s : Scope) (basic : ast.Tree ast.ABasic) : Type 0 where
+  pub searched : are_searched (block_of s [] basic) ≡ true
+  pub links : HasLinksOf (block_of s [] basic) (alg.reads_of (block_of s [] basic)) (asked_on s basic (block_of s [] basic))
+
+-- a file is built, as the grammar and the sort rules let none not be
+unfoldable pub IsBuilt : {k : ast.Kind} → Scope → Tree k → Type 0
+IsBuilt s (Ask query) = IsBuilt s query
+IsBuilt s (View name query) = IsBuilt s query
+IsBuilt s (Query heads first rest) = IsBuilt s heads × IsBuilt s first × IsBuilt s rest
+IsBuilt s (PathHead name chains filter cost) = ⊤
+IsBuilt s (GraphHead name query) = IsBuilt s query
+IsBuilt s (BasicTerm basic) = IsBasicBuilt s basic
+IsBuilt s (GraphTerm g) = ⊤
+IsBuilt s (QueryTerm query) = IsBuilt s query
+IsBuilt s (NextTerm op term) = IsBuilt s term
+IsBuilt s ast.none = ⊤
+IsBuilt s (ast.more t ts) = IsBuilt s t × IsBuilt s ts
+IsBuilt s t = ⊤
+
+-- each statement of a query file is built
+abbrev pub AreBuilt : QueryFile → Type 0
+AreBuilt f = AllByRecursion (IsBuilt (scope_in f 0)) f.statements

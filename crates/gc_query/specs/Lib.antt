@@ -3,6 +3,7 @@ pub mod Basics
 pub mod Built
 pub mod Costs
 pub mod Expressions
+pub mod InOrder
 pub mod Outcomes
 pub mod Queries
 pub mod Segments

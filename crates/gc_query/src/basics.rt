@@ -1,4 +1,4 @@
-ghost use Rattle.std.specs.Prelude.{◌≡◌, ◌≤◌, [], true};
+ghost use Rattle.std.specs.Prelude.{◌≡◌, ◌≤◌, []};
 ghost use Rattle.gc_alg.specs.Tables.{IsTableOfBlock};
 ghost use Rattle.gc_alg.specs.Views.{block_tree};
 ghost use Rattle.gc_ast.specs.QueryViews.{basic_tree};
@@ -7,7 +7,8 @@ ghost use Rattle.gc_lower.specs.Blocks.{block_of};
 ghost use Rattle.gc_walks.specs.Databases.{AreOnGraphs};
 ghost use Rattle.gc_query.specs.Answered.{ComesOf, IsAnswered, Rises, names_in, outcome_of, scope_in};
 ghost use Rattle.gc_query.specs.Basics.{Comes, DenotesBasic};
-ghost use Rattle.gc_query.specs.Built.{are_searched};
+ghost use Rattle.gc_query.specs.Built.{IsBasicBuilt};
+ghost use Rattle.gc_sets.specs.Origins.{AreStanding};
 
 use crate::costs::{costs_of, first_past};
 use crate::fault::{Fault, QueryRefusal};
@@ -19,7 +20,7 @@ use crate::tables::table_of;
 use gc_alg::Block;
 use gc_ast::Basic;
 use gc_base::Steps;
-use gc_build::{Built, Refusal, construct};
+use gc_build::{Built, Refusal, construct_whole};
 use gc_build_numbers::Setting;
 use gc_build_reading::{found_variables, recipe};
 use gc_lower::lower_match;
@@ -28,8 +29,8 @@ use gc_prod::SegmentTable;
 use gc_rows::Table;
 use std::sync::ledger::Ledger;
 
-/// What a CONSTRUCT comes to, where the next identity is `next`. The expressions of its patterns have to have
-/// automata.
+/// What a CONSTRUCT comes to, where the next identity is `next`. It has to be built, and the graphs have to stand
+/// together.
 pub(crate) fn basic_made<L: Ledger>(
     session: &Session<'_>,
     graphs: &GraphList,
@@ -37,7 +38,8 @@ pub(crate) fn basic_made<L: Ledger>(
     next: u64,
     steps: &mut Steps<L>,
 ) -> Result<Made, QueryRefusal>
-    requires walks { are_searched (block_of (scope_in session.now) [] (basic_tree (names_in session.now) basic.now)) ≡ true }
+    requires built { IsBasicBuilt (scope_in session.now) (basic_tree (names_in session.now) basic.now) }
+    requires standing { AreStanding graphs.now next }
     requires most { next ≤ 9007199254740992 }
     ensures rises { Rises next result }
     ensures comes { ComesOf graphs.now next result }
@@ -79,7 +81,8 @@ fn table_made<L: Ledger>(
     steps: &mut Steps<L>,
 ) -> Result<Made, QueryRefusal>
     requires block { block_tree matched.now.block.now ≡ block_of (scope_in session.now) [] (basic_tree (names_in session.now) basic.now) }
-    requires walks { are_searched (block_tree matched.now.block.now) ≡ true }
+    requires built { IsBasicBuilt (scope_in session.now) (basic_tree (names_in session.now) basic.now) }
+    requires standing { AreStanding graphs.now next }
     requires there { AreOnGraphs graphs.now matched.now.segments.now }
     requires matched { IsTableOfBlock (setting graphs.now matched.now.segments.now (block_tree matched.now.block.now) []) matched.now.table.now }
     requires most { next ≤ 9007199254740992 }
@@ -104,7 +107,7 @@ fn table_made<L: Ledger>(
         reads: &matched.block.reads,
         graphs,
     };
-    let outcome = construct(
+    let outcome = construct_whole(
         &setting,
         &recipe,
         matched.block,
@@ -116,15 +119,14 @@ fn table_made<L: Ledger>(
 }
 
 // What a CONSTRUCT at a token comes to, as the outcome of a query.
-fn made_of(outcome: Result<Option<Built>, Refusal>, token: u32) -> Result<Made, QueryRefusal>
+fn made_of(outcome: Result<Built, Refusal>, token: u32) -> Result<Made, QueryRefusal>
     ensures { result ≡ outcome_of token outcome }
 {
     match outcome {
-        Ok(Some(built)) => Ok(Made {
+        Ok(built) => Ok(Made {
             graph: built.graph,
             next: built.next,
         }),
-        Ok(None) => Err(QueryRefusal::Fault(Fault::NoGraph)),
         Err(Refusal::Fault(fault)) => Err(QueryRefusal::Fault(Fault::Undefined {
             at: fault.at,
             row: fault.row,

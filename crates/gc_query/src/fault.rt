@@ -14,9 +14,6 @@ pub enum Fault {
     CostPastRange { at: u32, row: u64 },
     /// So many new identities are needed that they would pass the largest; `at` is the word CONSTRUCT.
     IdsSpent { at: u32, needed: u64 },
-    /// What is claimed is no graph, or one that does not agree with a graph beside it. No query file that
-    /// the sort rules let pass is known to come to it.
-    NoGraph,
 }
 
 /// Why a statement is not answered.

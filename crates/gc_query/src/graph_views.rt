@@ -5,7 +5,7 @@ ghost use Rattle.gc_ast.specs.QueryViews.{query_tree};
 ghost use Rattle.gc_ast.specs.Trees.{View};
 ghost use Rattle.gc_catalog.specs.NamedGraphs.{AreBelow};
 ghost use Rattle.gc_lower.specs.Namings.{scope_of};
-ghost use Rattle.gc_query.specs.Built.{built};
+ghost use Rattle.gc_query.specs.Built.{IsBuilt};
 ghost use Rattle.gc_query.specs.Steps.{IsStep, free_word, with_named};
 ghost use Rattle.gc_spec.specs.Coherence.{AreCoherent};
 
@@ -28,7 +28,7 @@ pub(crate) fn view_step<L: Ledger>(
     catalog: &mut Catalog,
     steps: &mut Steps<L>,
 ) -> Result<Option<Graph>, QueryRefusal>
-    requires { built (scope_of checked.now 0) (query_tree checked.now.file.names query.now) ≡ true }
+    requires { IsBuilt (scope_of checked.now 0) (query_tree checked.now.file.names query.now) }
     ensures { IsStep (scope_of checked.now 0) catalog.old catalog.new
         (View (named checked.now.file.names name) (query_tree checked.now.file.names query.now)) result }
 {

@@ -1,10 +1,11 @@
-ghost use Rattle.std.specs.Prelude.{◌≡◌, true, None};
+ghost use Rattle.std.specs.Prelude.{◌≡◌, ℕ, None};
 ghost use Rattle.gc_ast.specs.Trees.{AStatement, Tree, row};
 ghost use Rattle.gc_sorts.specs.SortRules.{first_breach};
 ghost use Rattle.gc_lower.specs.Namings.{QueryFile};
 ghost use Rattle.gc_lower.specs.Scopes.{Scope};
-ghost use Rattle.gc_query.specs.Built.{is_built};
+ghost use Rattle.gc_query.specs.Built.{AreBuilt};
 ghost use Rattle.gc_query.specs.Expressions.{EachHasParts};
+ghost use Rattle.gc_query.specs.InOrder.{IsInOrder};
 ghost use Rattle.gc_query.specs.Sessions.{Answer, Answers};
 ghost use Rattle.gc_query.specs.Standings.{Standing};
 
@@ -13,8 +14,10 @@ pub fn a_statement_comes_to_one_answer()
     ensures { (s : Scope) (at : Standing) (statement : Tree AStatement) (a b : Answer) → Answers s at statement a → Answers s at statement b → a ≡ b }
 {}
 
-/// A query file is built where it breaks no sort rule and no juxtaposition in its regular path expressions
-/// is of no parts, which the grammar gives none.
+/// A query file is built where it breaks no sort rule, where no juxtaposition in its regular path expressions is of no
+/// parts, and where its names and elements stand in the order of the text and its names are in its table, as the
+/// grammar has it. So what its CONSTRUCTs claim is of one graph.
 pub fn a_file_that_breaks_no_rule_is_built()
-    ensures { (f : QueryFile) → EachHasParts (row f.statements) → first_breach f.graphs (row f.statements) ≡ None → is_built f ≡ true }
+    ensures { (f : QueryFile) (upto : ℕ) → EachHasParts (row f.statements) → IsInOrder f.names 0 (row f.statements) upto
+        → first_breach f.graphs (row f.statements) ≡ None → AreBuilt f }
 {}

@@ -3,7 +3,7 @@ ghost use Rattle.gc_ast.specs.QueryViews.{head_tree, next_term_tree, query_tree,
 ghost use Rattle.gc_ast.specs.Trees.{more, none, row};
 ghost use Rattle.gc_query.specs.Answered.{AllCome, AreStood, ComesAlong, ComesOf, IsAnswered, IsLonger, Rises, RisesOver, names_in, scope_in, standing_at};
 ghost use Rattle.gc_sets.specs.Origins.{ComesFrom};
-ghost use Rattle.gc_query.specs.Built.{built};
+ghost use Rattle.gc_query.specs.Built.{IsBuilt};
 ghost use Rattle.gc_query.specs.Queries.{Denotes, DenotesTerm, Heads, Joined, graph_of_number, named, no_elements};
 ghost use Rattle.gc_lower.specs.Scopes.{number_at};
 
@@ -22,7 +22,7 @@ use std::sync::ledger::Ledger;
 
 /// What a query comes to over the graphs of a catalog, where the next identity is `next`. The graphs that its
 /// heads name end with it: the catalog is as before.
-#[tactic(auto, unfolding(crate::specs::Queries::Denotes, crate::specs::Built::built))]
+#[tactic(auto, unfolding(crate::specs::Queries::Denotes, crate::specs::Built::IsBuilt))]
 #[cycle(made)]
 pub(crate) fn query_made<L: Ledger>(
     query: &Query,
@@ -31,7 +31,7 @@ pub(crate) fn query_made<L: Ledger>(
     next: u64,
     steps: &mut Steps<L>,
 ) -> Result<Made, QueryRefusal>
-    requires built { built (scope_in session.now) (query_tree (names_in session.now) query.now) ≡ true }
+    requires built { IsBuilt (scope_in session.now) (query_tree (names_in session.now) query.now) }
     requires later { catalog.old.next ≤ next }
     requires most { next ≤ 9007199254740992 }
     ensures rises { Rises next result }
@@ -47,7 +47,7 @@ pub(crate) fn query_made<L: Ledger>(
 }
 
 // What a query comes to; what its heads name is left in the catalog.
-#[tactic(auto, unfolding(crate::specs::Queries::Denotes, crate::specs::Built::built))]
+#[tactic(auto, unfolding(crate::specs::Queries::Denotes, crate::specs::Built::IsBuilt))]
 #[cycle(made)]
 fn query_under<L: Ledger>(
     query: &Query,
@@ -56,7 +56,7 @@ fn query_under<L: Ledger>(
     next: u64,
     steps: &mut Steps<L>,
 ) -> Result<Made, QueryRefusal>
-    requires built { built (scope_in session.now) (query_tree (names_in session.now) query.now) ≡ true }
+    requires built { IsBuilt (scope_in session.now) (query_tree (names_in session.now) query.now) }
     requires later { catalog.old.next ≤ next }
     requires most { next ≤ 9007199254740992 }
     ensures rises { Rises next result }
@@ -70,7 +70,7 @@ fn query_under<L: Ledger>(
 }
 
 // Puts the graphs that heads name behind those that stand.
-#[tactic(auto, unfolding(crate::specs::Queries::Denotes, crate::specs::Built::built))]
+#[tactic(auto, unfolding(crate::specs::Queries::Denotes, crate::specs::Built::IsBuilt))]
 #[cycle(made)]
 fn heads_stood<L: Ledger>(
     heads: &[Head],
@@ -79,7 +79,7 @@ fn heads_stood<L: Ledger>(
     next: u64,
     steps: &mut Steps<L>,
 ) -> Result<u64, QueryRefusal>
-    requires built { built (scope_in session.now) (row (map (head_tree (names_in session.now)) heads.now)) ≡ true }
+    requires built { IsBuilt (scope_in session.now) (row (map (head_tree (names_in session.now)) heads.now)) }
     requires later { catalog.old.next ≤ next }
     requires most { next ≤ 9007199254740992 }
     ensures rises { RisesOver next catalog.new result }
@@ -95,7 +95,7 @@ fn heads_stood<L: Ledger>(
 }
 
 // Puts the graph that a head names behind those that stand.
-#[tactic(auto, unfolding(crate::specs::Queries::Denotes, crate::specs::Built::built))]
+#[tactic(auto, unfolding(crate::specs::Queries::Denotes, crate::specs::Built::IsBuilt))]
 #[cycle(made)]
 fn head_stood<L: Ledger>(
     head: &Head,
@@ -104,7 +104,7 @@ fn head_stood<L: Ledger>(
     next: u64,
     steps: &mut Steps<L>,
 ) -> Result<u64, QueryRefusal>
-    requires built { built (scope_in session.now) (head_tree (names_in session.now) head.now) ≡ true }
+    requires built { IsBuilt (scope_in session.now) (head_tree (names_in session.now) head.now) }
     requires later { catalog.old.next ≤ next }
     requires most { next ≤ 9007199254740992 }
     ensures rises { RisesOver next catalog.new result }
@@ -123,7 +123,7 @@ fn head_stood<L: Ledger>(
 }
 
 // A graph with later terms.
-#[tactic(auto, unfolding(crate::specs::Queries::Denotes, crate::specs::Built::built))]
+#[tactic(auto, unfolding(crate::specs::Queries::Denotes, crate::specs::Built::IsBuilt))]
 #[cycle(made)]
 fn joined<L: Ledger>(
     rest: &[NextTerm],
@@ -132,7 +132,7 @@ fn joined<L: Ledger>(
     first: Made,
     steps: &mut Steps<L>,
 ) -> Result<Made, QueryRefusal>
-    requires built { built (scope_in session.now) (row (map (next_term_tree (names_in session.now)) rest.now)) ≡ true }
+    requires built { IsBuilt (scope_in session.now) (row (map (next_term_tree (names_in session.now)) rest.now)) }
     requires later { catalog.old.next ≤ first.next }
     requires most { first.next ≤ 9007199254740992 }
     requires comes { ComesFrom catalog.old.graphs catalog.old.next first.next first.graph }
@@ -151,7 +151,7 @@ fn joined<L: Ledger>(
 }
 
 // What a term comes to.
-#[tactic(auto, unfolding(crate::specs::Queries::Denotes, crate::specs::Built::built))]
+#[tactic(auto, unfolding(crate::specs::Queries::Denotes, crate::specs::Built::IsBuilt))]
 #[cycle(made)]
 fn term_made<L: Ledger>(
     term: &Term,
@@ -160,7 +160,7 @@ fn term_made<L: Ledger>(
     next: u64,
     steps: &mut Steps<L>,
 ) -> Result<Made, QueryRefusal>
-    requires built { built (scope_in session.now) (term_tree (names_in session.now) term.now) ≡ true }
+    requires built { IsBuilt (scope_in session.now) (term_tree (names_in session.now) term.now) }
     requires later { catalog.old.next ≤ next }
     requires most { next ≤ 9007199254740992 }
     ensures rises { Rises next result }

@@ -3,7 +3,7 @@ ghost use Rattle.gc_ast.specs.QueryViews.{file_trees, query_tree, statement_tree
 ghost use Rattle.gc_ast.specs.Trees.{Ask};
 ghost use Rattle.gc_lower.specs.Namings.{file_of, scope_of};
 ghost use Rattle.gc_query.specs.Answered.{ComesOf, IsAnswered, Rises};
-ghost use Rattle.gc_query.specs.Built.{built, is_built};
+ghost use Rattle.gc_query.specs.Built.{AreBuilt, IsBuilt};
 ghost use Rattle.gc_query.specs.Queries.{Denotes};
 ghost use Rattle.gc_query.specs.Steps.{IsStep, IsStepAt, standing};
 
@@ -31,7 +31,7 @@ pub fn step<L: Ledger>(
     catalog: &mut Catalog,
     steps: &mut Steps<L>,
 ) -> Result<Option<Graph>, QueryRefusal>
-    requires built { is_built (file_of checked.now) ≡ true }
+    requires built { AreBuilt (file_of checked.now) }
     requires there { i < length (file_trees checked.now.file) }
     ensures { IsStepAt (scope_of checked.now 0) catalog.old catalog.new (file_trees checked.now.file) i result }
 {
@@ -52,7 +52,7 @@ fn statement_step<L: Ledger>(
     catalog: &mut Catalog,
     steps: &mut Steps<L>,
 ) -> Result<Option<Graph>, QueryRefusal>
-    requires { built (scope_of checked.now 0) (statement_tree checked.now.file.names statement.now) ≡ true }
+    requires { IsBuilt (scope_of checked.now 0) (statement_tree checked.now.file.names statement.now) }
     ensures { IsStep (scope_of checked.now 0) catalog.old catalog.new (statement_tree checked.now.file.names statement.now) result }
 {
     match statement {
@@ -71,7 +71,7 @@ fn ask_step<L: Ledger>(
     catalog: &mut Catalog,
     steps: &mut Steps<L>,
 ) -> Result<Option<Graph>, QueryRefusal>
-    requires { built (scope_of checked.now 0) (query_tree checked.now.file.names query.now) ≡ true }
+    requires { IsBuilt (scope_of checked.now 0) (query_tree checked.now.file.names query.now) }
     ensures { IsStep (scope_of checked.now 0) catalog.old catalog.new (Ask (query_tree checked.now.file.names query.now)) result }
 {
     let made = answered(alloc, checked, query, catalog, steps)?;
@@ -87,7 +87,7 @@ pub(crate) fn answered<L: Ledger>(
     catalog: &mut Catalog,
     steps: &mut Steps<L>,
 ) -> Result<Made, QueryRefusal>
-    requires { built (scope_of checked.now 0) (query_tree checked.now.file.names query.now) ≡ true }
+    requires { IsBuilt (scope_of checked.now 0) (query_tree checked.now.file.names query.now) }
     ensures due { IsAnswered (Denotes (scope_of checked.now 0) (standing catalog.old) (query_tree checked.now.file.names query.now)) result }
     ensures rises { Rises catalog.old.next result }
     ensures comes { ComesOf catalog.old.graphs catalog.old.next result }

@@ -10,3 +10,5 @@ pub mod BuiltQueries
 pub mod Languages
 pub mod SpelledPatterns
 pub mod SpelledQueries
+pub mod Spans
+pub mod SpelledOrder

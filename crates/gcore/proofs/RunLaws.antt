@@ -14,7 +14,7 @@ use Rattle.gcore.specs.Steps.{StopsReadingQuery}
 use Rattle.gcore.specs.declared.command.Command.TheVariants.{Run}
 use Rattle.gcore.specs.declared.pair.Pair.{Pair}
 use Rattle.gcore.specs.declared.stop.Stop.{Stop}
-use Rattle.gcore.specs.declared.stop.Stop.TheVariants.{Usage, Unread, TooLarge, Refused, Text, Sorts, NotBuilt, Faulted, NoGraph, Unwritten, OutOfMemory}
+use Rattle.gcore.specs.declared.stop.Stop.TheVariants.{Usage, Unread, TooLarge, Refused, Text, Sorts, NotBuilt, Faulted, Unwritten, OutOfMemory}
 
 -- a sink that was not called
 abbrev pub still : ℕ → Option (List ℕ) → Change
@@ -82,7 +82,6 @@ module _ (query : List ℕ) (pairs : List Pair) where
   query_stops (Some files) gs before middle after faults taken (Sorts rule place) graphs le h = ((refl, subst IsOk (sym graphs) refl), due_stop files gs (Sorts rule place) graphs h, refl)
   query_stops told gs before middle after faults taken NotBuilt graphs le h = absurd h
   query_stops told gs before middle after faults taken (Faulted fault) graphs le h = absurd h
-  query_stops told gs before middle after faults taken NoGraph graphs le h = absurd h
   query_stops told gs before middle after faults taken Unwritten graphs le h = absurd h
   query_stops told gs before middle after faults taken OutOfMemory graphs le h = nothing_is_prefix told before after (still faults taken) refl
 
@@ -107,7 +106,6 @@ module _ (query : List ℕ) (pairs : List Pair) where
   graph_stops told before after faults taken (Sorts rule place) h = absurd h
   graph_stops told before after faults taken NotBuilt h = absurd h
   graph_stops told before after faults taken (Faulted fault) h = absurd h
-  graph_stops told before after faults taken NoGraph h = absurd h
   graph_stops told before after faults taken Unwritten h = absurd h
   graph_stops told before after faults taken OutOfMemory h = nothing_is_prefix told before after (still faults taken) refl
 
@@ -129,8 +127,6 @@ module _ (query : List ℕ) (pairs : List Pair) where
     ran (Some files) (Ok done) c d w = (refl, (over gs file, w.0, asked_is files gs file c d, w.1, w.2))
     ran None (Err (Faulted fault)) c d w = ((refl, tt), tt)
     ran (Some files) (Err (Faulted fault)) c d w = ((refl, turn (Some files) c), (over gs file, asked_is files gs file c d, w))
-    ran None (Err NoGraph) c d w = ((refl, tt), tt)
-    ran (Some files) (Err NoGraph) c d w = ((refl, turn (Some files) c), (over gs file, asked_is files gs file c d, w))
     ran None (Err Unwritten) c d w = (refl, w.0, tt)
     ran (Some files) (Err Unwritten) c d w = (refl, w.0, inr (over gs file, asked_is files gs file c d, w.1))
     ran None (Err OutOfMemory) c d w = tt

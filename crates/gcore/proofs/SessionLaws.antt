@@ -22,7 +22,7 @@ use Rattle.gcore.specs.Outcomes.{Prints, PrintsFirst, Request, beginning, printe
 use Rattle.gcore.specs.QueryFiles.{PlacedFile}
 use Rattle.gcore.specs.SessionSteps.{GoesWell, HoldsPrinted, IsAtFault, IsCut, IsPrinted, RunsStatement, RunsStatementAt, Turn}
 use Rattle.gcore.specs.declared.stop.Stop.{Stop}
-use Rattle.gcore.specs.declared.stop.Stop.TheVariants.{Usage, Unread, TooLarge, Refused, Text, Sorts, NotBuilt, Faulted, NoGraph, Unwritten, OutOfMemory}
+use Rattle.gcore.specs.declared.stop.Stop.TheVariants.{Usage, Unread, TooLarge, Refused, Text, Sorts, NotBuilt, Faulted, Unwritten, OutOfMemory}
 
 -- texts behind texts
 texts_more : (xs ys : List PropertyGraph) → texts (xs ++ ys) ≡ texts xs ++ texts ys
@@ -208,7 +208,6 @@ module _ (r : Request) where
     stops Unwritten h = cut h
     stops OutOfMemory h = wanting h
     stops (Faulted fault) h = at_fault (Faulted fault) h
-    stops NoGraph h = at_fault NoGraph h
     stops NotBuilt h = absurd h
     stops Usage h = absurd h
     stops (Unread file) h = absurd h

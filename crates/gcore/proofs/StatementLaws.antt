@@ -16,7 +16,7 @@ use Rattle.gcore.specs.Endings.{Change, Gains, GainsPrefix, WritesText}
 use Rattle.gcore.specs.Outcomes.{printed, texts}
 use Rattle.gcore.specs.SessionSteps.{HoldsPrinted, IsPrinted, RunsStatementAt, Turn}
 use Rattle.gcore.specs.declared.stop.Stop.{Stop}
-use Rattle.gcore.specs.declared.stop.Stop.TheVariants.{Usage, Unread, TooLarge, Refused, Text, Sorts, NotBuilt, Faulted, NoGraph, Unwritten, OutOfMemory}
+use Rattle.gcore.specs.declared.stop.Stop.TheVariants.{Usage, Unread, TooLarge, Refused, Text, Sorts, NotBuilt, Faulted, Unwritten, OutOfMemory}
 use Rattle.gcore.proofs.SessionLaws.{known_nothing, same_room}
 
 -- there is an item at a place within a list
@@ -68,7 +68,6 @@ module _ (s : Scope) (sts : List (Tree AStatement)) (i : ℕ) (before after : Na
     prints g (Err (Sorts rule place)) step w room calm = absurd w
     prints g (Err NotBuilt) step w room calm = absurd w
     prints g (Err (Faulted fault)) step w room calm = absurd w
-    prints g (Err NoGraph) step w room calm = absurd w
 
   -- what stands behind a statement that names a graph; a query statement names none
   view_stands : (statement : Tree AStatement) (made : Made) → Answers s (standing before) statement (says.Names made) → standing (with_view before statement made) ≡ behind (standing before) (says.Names made)

@@ -21,7 +21,7 @@ use Rattle.gcore.specs.declared.placed_fault.PlacedFault.TheVariants.{Undefined,
 use Rattle.gcore.specs.declared.status.Status.{Status}
 use Rattle.gcore.specs.declared.status.Status.TheVariants.{Done}
 use Rattle.gcore.specs.declared.stop.Stop.{Stop}
-use Rattle.gcore.specs.declared.stop.Stop.TheVariants.{Usage, Unread, TooLarge, Refused, Text, Sorts, NotBuilt, Faulted, NoGraph, Unwritten, OutOfMemory}
+use Rattle.gcore.specs.declared.stop.Stop.TheVariants.{Usage, Unread, TooLarge, Refused, Text, Sorts, NotBuilt, Faulted, Unwritten, OutOfMemory}
 
 -- a sink before and after a call: its count of faults, and what it took, where it tells that
 pub record Change : Type 0 where
@@ -71,7 +71,6 @@ stop_of_fault places (fault.Undefined at row why) = Faulted (Undefined why (plac
 stop_of_fault places (fault.BadCost at walk) = Faulted (BadCost (place_at places at) (walk_text walk))
 stop_of_fault places (fault.CostPastRange at row) = Faulted (CostPastRange (place_at places at) row)
 stop_of_fault places (fault.IdsSpent at needed) = Faulted (IdsSpent (place_at places at) needed)
-stop_of_fault places fault.NoGraph = NoGraph
 
 -- a session ends at a fault, and the texts of what it printed before were written
 abbrev pub EndsAtFault : Request → Change → Stop → Type 0
@@ -87,7 +86,6 @@ WritesBeginning r out = (graphs : List PropertyGraph) × PrintsFirst r graphs ×
 abbrev pub RunsSession : Request → Change → Result (Unit {0}) Stop → Type 0
 RunsSession r out (Ok done) = (graphs : List PropertyGraph) × Prints r graphs None × Gains out (texts graphs)
 RunsSession r out (Err (Faulted fault)) = EndsAtFault r out (Faulted fault)
-RunsSession r out (Err NoGraph) = EndsAtFault r out NoGraph
 RunsSession r out (Err Unwritten) = Failed out × WritesBeginning r out
 RunsSession r out (Err OutOfMemory) = WritesBeginning r out
 RunsSession r out (Err stop) = ⊥
@@ -175,7 +173,6 @@ StopsFor call (Text refusal) = IsReachedQuery call × IsDue call (Text refusal) 
 StopsFor call (Sorts rule place) = IsReachedQuery call × IsDue call (Sorts rule place) × GainsNothing call.out
 StopsFor call NotBuilt = IsSomeAnd call.command IsUnbuilt × IsDue call NotBuilt × GainsNothing call.out
 StopsFor call (Faulted fault) = IsReachedQuery call × FaultIsDue call (Faulted fault)
-StopsFor call NoGraph = IsReachedQuery call × FaultIsDue call NoGraph
 StopsFor call Unwritten = IsSome call.command × Failed call.out × GainsDuePrefix call
 StopsFor call OutOfMemory = GainsDuePrefix call
 

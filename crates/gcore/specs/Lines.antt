@@ -13,7 +13,7 @@ use Rattle.gcore.specs.declared.placed_fault.PlacedFault.{PlacedFault}
 use Rattle.gcore.specs.declared.status.Status.{Status}
 use Rattle.gcore.specs.declared.status.Status.TheVariants as status
 use Rattle.gcore.specs.declared.stop.Stop.{Stop}
-use Rattle.gcore.specs.declared.stop.Stop.TheVariants.{Usage, Unread, TooLarge, Refused, Text, Sorts, NotBuilt, Faulted, NoGraph, Unwritten, OutOfMemory}
+use Rattle.gcore.specs.declared.stop.Stop.TheVariants.{Usage, Unread, TooLarge, Refused, Text, Sorts, NotBuilt, Faulted, Unwritten, OutOfMemory}
 use Rattle.gcore.specs.declared.text_refusal.TextRefusal.{TextRefusal}
 
 -- a line begins with the program's name and ends with a line feed
@@ -46,7 +46,6 @@ line_of (Text refusal) = text_line refusal
 line_of (Sorts rule place) = sort_line rule place
 line_of NotBuilt = line (codes "not built")
 line_of (Faulted fault) = placed_line fault
-line_of NoGraph = line (codes "not built")
 line_of Unwritten = line (codes "cannot write")
 line_of OutOfMemory = line (codes "out of memory")
 
@@ -83,7 +82,6 @@ status_of (Text refusal) = status.Text
 status_of (Sorts rule place) = status.Sorts
 status_of NotBuilt = status.NotBuilt
 status_of (Faulted fault) = status.Fault
-status_of NoGraph = status.NotBuilt
 status_of Unwritten = status.Write
 status_of OutOfMemory = status.Memory
 

@@ -11,7 +11,7 @@ use Rattle.gc_query.specs.declared.fault.Fault.{Fault}
 use Rattle.gcore.specs.Endings.{Change, Failed, Gains, GainsNothing, GainsPrefix, stop_of_fault}
 use Rattle.gcore.specs.Outcomes.{texts}
 use Rattle.gcore.specs.declared.stop.Stop.{Stop}
-use Rattle.gcore.specs.declared.stop.Stop.TheVariants.{Faulted, NoGraph, Unwritten, OutOfMemory}
+use Rattle.gcore.specs.declared.stop.Stop.TheVariants.{Faulted, Unwritten, OutOfMemory}
 
 -- where a statement stands, and what it does to the output: what stands before and behind it, and the told room then
 pub record Turn : Type 0 where
@@ -57,7 +57,6 @@ RunsStatement s places t statement (Ok done) = IsPrinted s t statement
 RunsStatement s places t statement (Err Unwritten) = IsCut s t statement
 RunsStatement s places t statement (Err OutOfMemory) = GainsNothing t.out
 RunsStatement s places t statement (Err (Faulted fault)) = IsAtFault s places t statement (Faulted fault)
-RunsStatement s places t statement (Err NoGraph) = IsAtFault s places t statement NoGraph
 RunsStatement s places t statement (Err stop) = ⊥
 
 -- the same of the statement of a number

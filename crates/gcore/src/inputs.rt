@@ -2,7 +2,7 @@ ghost use Rattle.std.specs.Prelude.{◌≡◌, ◌≤◌, true, IfOk};
 ghost use Rattle.gc_json.specs.GraphFiles.{file_graph};
 ghost use Rattle.gc_lower.specs.Namings.{file_of};
 ghost use Rattle.gc_ppg.specs.Shapes.{graph_agrees};
-ghost use Rattle.gc_query.specs.Built.{is_built};
+ghost use Rattle.gc_query.specs.Built.{AreBuilt};
 ghost use Rattle.gcore.specs.Outcomes.{accepted, file_due, graph_due, query_file_due};
 ghost use Rattle.gcore.specs.Steps.{Accepts, Reads, ReadsGraph, ReadsQuery, Reading};
 
@@ -59,7 +59,7 @@ pub fn read_query<F: Folder>(
 ) -> Result<Checked, Stop>
     ensures outcome { ReadsQuery (record { files = F.files folder.old; faults_before = F.faults folder.old; faults_after = F.faults folder.new })
         name.now (λ files. query_file_due graphs.now files name.now) result }
-    ensures built { IfOk result (λ checked. is_built (file_of checked) ≡ true) }
+    ensures built { IfOk result (λ checked. AreBuilt (file_of checked)) }
     ensures later { F.faults folder.old ≤ F.faults folder.new }
     ensures kept { F.files folder.new ≡ F.files folder.old }
 {

@@ -10,7 +10,8 @@ ghost use Rattle.gc_sorts.specs.declared.breach.Breach.{Breach};
 ghost use Rattle.gc_sorts.specs.declared.breach.SortRule.{SortRule};
 ghost use Rattle.gc_sorts.specs.SortRules.{first_breach};
 ghost use Rattle.gc_parse_source.specs.Sources.{names_among};
-ghost use Rattle.gc_query.specs.Built.{is_built};
+ghost use Rattle.gc_query.specs.Built.{AreBuilt};
+ghost use Rattle.gc_query.specs.InOrder.{IsInOrder};
 ghost use Rattle.gc_query.specs.Expressions.{EachHasParts};
 ghost use Rattle.gcore.specs.QueryFiles.{PlacedFile, breach_place, file_over, query_file_of};
 ghost use Rattle.gcore.specs.declared.stop.Stop.TheVariants.{Sorts, Text};
@@ -37,9 +38,11 @@ pub fn a_query_file_asks_what_its_tokens_spell()
         × (k : ℕ) × (lexed text ≡ Ok list) × (slice_get list.places k ≡ Some place) × IsRefusedAt SpellsFile list.tokens k }
 {}
 
-/// No juxtaposition in a regular path expression of a file that tokens spell is of no parts. So a query
-/// file that is read is built: each expression by which it looks for walks has an automaton.
+/// No juxtaposition in a regular path expression of a file that tokens spell is of no parts, and its names and elements
+/// stand in the order of the text, with names of its table. So a query file that is read is built: each expression by
+/// which it looks for walks has an automaton, and what its CONSTRUCTs claim is of one graph.
 pub fn a_query_file_that_is_read_is_built()
     ensures parts { (ts : List Token) (statements : List (Tree AStatement)) → SpellsFile ts statements → EachHasParts (row statements) }
-    ensures built { (graphs : List (List ℕ)) (text : List ℕ) (query : PlacedFile) → query_file_of graphs text ≡ Ok query → is_built query.file ≡ true }
+    ensures order { (ts : List Token) (statements : List (Tree AStatement)) → SpellsFile ts statements → (upto : ℕ) × IsInOrder (names_among ts) 0 (row statements) upto }
+    ensures built { (graphs : List (List ℕ)) (text : List ℕ) (query : PlacedFile) → query_file_of graphs text ≡ Ok query → AreBuilt query.file }
 {}

@@ -35,7 +35,6 @@ pub fn tell<T: Sink>(stop: &Stop, err: &mut T)
         Stop::Text(refusal) => tell_text(err, *refusal),
         Stop::Sorts(rule, place) => tell_sorts(err, *rule, *place),
         Stop::NotBuilt => tell_line(err, b"not built", b""),
-        Stop::NoGraph => tell_line(err, b"not built", b""),
         Stop::Faulted(fault) => tell_fault(err, fault),
         Stop::Unwritten => tell_line(err, b"cannot write", b""),
         Stop::OutOfMemory => tell_line(err, b"out of memory", b""),

@@ -2,7 +2,7 @@ ghost use Rattle.std.specs.Prelude.{◌≡◌, ◌<◌, ◌⊎◌, true, length,
 ghost use Rattle.gc_ast.specs.QueryViews.{file_trees};
 ghost use Rattle.gc_base.specs.Sinks.{HasRoom, room_after};
 ghost use Rattle.gc_lower.specs.Namings.{file_of, scope_of};
-ghost use Rattle.gc_query.specs.Built.{is_built};
+ghost use Rattle.gc_query.specs.Built.{AreBuilt};
 ghost use Rattle.gc_query.specs.Steps.{standing};
 ghost use Rattle.gcore.specs.Endings.{Change, HoldsTexts, RunsSession, WritesText, stop_of_fault};
 ghost use Rattle.gcore.specs.Outcomes.{Request, free_above, printed};
@@ -32,7 +32,7 @@ pub fn run_session<S: Sink, L: Ledger>(
     out: &mut S,
     steps: &mut Steps<L>,
 ) -> Result<(), Stop>
-    requires built { is_built (file_of checked.now) ≡ true }
+    requires built { AreBuilt (file_of checked.now) }
     requires begins { catalog.old.next ≡ free_above catalog.old.graphs }
     requires room { HoldsTexts (S.room out.old) (record { graphs = catalog.old.graphs; query = placed checked.now }) }
     ensures { RunsSession (record { graphs = catalog.old.graphs; query = placed checked.now })
@@ -53,7 +53,7 @@ fn run_statement<S: Sink, L: Ledger>(
     out: &mut S,
     steps: &mut Steps<L>,
 ) -> Result<(), Stop>
-    requires built { is_built (file_of checked.now) ≡ true }
+    requires built { AreBuilt (file_of checked.now) }
     requires there { i < length (file_trees checked.now.file) }
     requires room { HoldsPrinted (S.room out.old) (scope_of checked.now 0) (standing catalog.old) (file_trees checked.now.file) i }
     ensures { RunsStatementAt (scope_of checked.now 0) (placed checked.now).places
@@ -91,7 +91,6 @@ fn stop_of(alloc: Global, checked: &Checked, fault: &Fault) -> Stop
         Fault::IdsSpent { at, needed } => {
             Stop::Faulted(PlacedFault::IdsSpent(place_at(checked, *at), *needed))
         }
-        Fault::NoGraph => Stop::NoGraph,
     }
 }
 

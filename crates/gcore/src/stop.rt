@@ -32,8 +32,6 @@ pub enum Stop {
     NotBuilt,
     /// A statement has a fault.
     Faulted(PlacedFault),
-    /// What a statement claims is no graph.
-    NoGraph,
     /// The output failed.
     Unwritten,
     /// Want of memory.
@@ -54,7 +52,6 @@ impl Stop {
             Stop::Sorts(_, _) => Status::Sorts,
             Stop::NotBuilt => Status::NotBuilt,
             Stop::Faulted(_) => Status::Fault,
-            Stop::NoGraph => Status::NotBuilt,
             Stop::Unwritten => Status::Write,
             Stop::OutOfMemory => Status::Memory,
         }

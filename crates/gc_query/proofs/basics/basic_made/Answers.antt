@@ -16,13 +16,10 @@ use Rattle.gc_query.proofs.Outcomes.{passes_on, refused}
 use Rattle.gc_query.proofs.basics.basic_made.Goals as goal
 
 pub table_of-requires-clause-searched : goal.table_of-requires-clause-searched
-table_of-requires-clause-searched g c = ap are_searched c.in_ok-lowered.ensures.is_block ∙ c.requires.walks
+table_of-requires-clause-searched g c = ap are_searched c.in_ok-lowered.ensures.is_block ∙ c.requires.built.searched
 
 pub table_made-requires-clause-block : goal.table_made-requires-clause-block
 table_made-requires-clause-block g c = c.in_ok-lowered.ensures.is_block
-
-pub table_made-requires-clause-walks : goal.table_made-requires-clause-walks
-table_made-requires-clause-walks g c = ap are_searched c.in_ok-lowered.ensures.is_block ∙ c.requires.walks
 
 pub table_made-requires-clause-matched : goal.table_made-requires-clause-matched
 table_made-requires-clause-matched g c = c.in_ok-table.ensures

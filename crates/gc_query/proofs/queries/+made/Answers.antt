@@ -1,4 +1,4 @@
-use Rattle.std.proofs.Common.{ℕ, ◌∷◌, ◌++◌, OnOk, Result, ◌+◌, length, drop, slice_get, Some, ◌≡◌, ◌≤◌, [], Ok, Err, List, map, true, rules, sym, ap, ◌∙◌, subst, refl, arith}
+use Rattle.std.proofs.Common.{ℕ, ◌∷◌, ◌++◌, OnOk, Result, ◌+◌, length, drop, slice_get, Some, ◌≡◌, ◌≤◌, [], Ok, Err, List, map, rules, sym, ap, ◌∙◌, subst, refl, arith}
 use Rattle.gc_ast.specs.declared.query.Basic.{Basic}
 use Rattle.gc_ast.specs.declared.query.Query.{Query, out-Query}
 use Rattle.gc_ast.specs.declared.construct.Change.{the_lemmas}
@@ -7,14 +7,13 @@ use Rattle.gc_ast.specs.QueryViews.{basic_tree, head_by, head_tree, next_term_tr
 use Rattle.gc_ast.specs.Trees as tree
 use Rattle.gc_catalog.specs.NamedGraphs.{NamedGraphs}
 use Rattle.gc_expr.specs.Views.{Names, name_of}
-use Rattle.gc_lower.specs.Blocks.{block_of}
 use Rattle.gc_lower.specs.Scopes.{Scope, number_at}
-use Rattle.gc_sets.specs.Origins.{ComesFrom}
+use Rattle.gc_sets.specs.Origins.{AreStanding, ComesFrom}
 use Rattle.gc_sets.proofs.OriginLaws.{comes_through, comes_wider, own_comes, turns_agree}
 use Rattle.gc_spec.specs.PropertyGraph.{PropertyGraph}
 use Rattle.gc_query.specs.Answered.{AreStood, ComesAlong, ComesOf, IsAnswered, IsLonger, names_in, scope_in, standing_at}
 use Rattle.gc_query.specs.Basics.{DenotesBasic}
-use Rattle.gc_query.specs.Built.{built, are_searched}
+use Rattle.gc_query.specs.Built.{IsBasicBuilt, IsBuilt}
 use Rattle.gc_query.specs.Queries.{Denotes, DenotesTerm, Heads, Joined, named, with_made}
 use Rattle.gc_query.specs.Standings.{Made, Standing}
 use Rattle.gc_query.specs.declared.fault.Fault.{Fault}
@@ -25,7 +24,7 @@ use Rattle.gc_query.proofs.Heads.{goes_on, graph_fails, head_fails, names_graph,
 use Rattle.gc_query.proofs.Outcomes.{if_ok, not_stood, passes_on, refused, stands_on}
 use Rattle.gc_query.proofs.QueryParts.{path_head}
 use Rattle.gc_query.proofs.QueriesWhole.{basic_comes, inner_comes, joins, query_comes, term_fails, terms_come}
-use Rattle.gc_query.proofs.Standings.{as_long, below_again, first_again, longer_yet, stands, there_again}
+use Rattle.gc_query.proofs.Standings.{as_long, below_again, first_again, longer_yet, stands, stands_later, there_again}
 use Rattle.gc_query.proofs.Origins.{come_through, one_comes, rises_on}
 use Rattle.gc_query.proofs.queries.+made.Goals as goal
 
@@ -40,7 +39,7 @@ joined-term_made-requires g t c κs within =
       (
         within,
         (
-          sym (of_next s names c.later-item.result) ∙ next_is s (next_term_tree names) c.args.rest.now c.loop-later.later-index c.later-item.result at c.loop-later.invariant.built,
+          of_next s names c.later-item.result (next_is s (next_term_tree names) c.args.rest.now c.loop-later.later-index c.later-item.result at c.loop-later.invariant.built),
           (
             omega (arith, c.requires.later, c.loop-later.invariant.later, ap (λ (n : NamedGraphs). n.next) c.loop-later.invariant.kept, ap (λ (m : Made). m.next) same),
             subst (λ (m : Made). m.next ≤ 9007199254740992) (sym same) c.loop-later.invariant.most,
@@ -130,8 +129,8 @@ pub query_under-heads_stood-requires : goal.query_under-heads_stood-requires
 query_under-heads_stood-requires g t c κs within =
     let s : Scope = scope_in c.args.session.now in
     let names : Names = names_in c.args.session.now in
-    let are : built s (tree.row (map (head_tree names) c.deref.result.now)) ≡ true =
-    ap (λ items. built s (tree.row (map (head_tree names) items))) c.deref.ensures.value ∙ heads_are s names c.args.query.now c.requires.built in
+    let are : IsBuilt s (tree.row (map (head_tree names) c.deref.result.now)) =
+    subst (λ items. IsBuilt s (tree.row (map (head_tree names) items))) (sym c.deref.ensures.value) (heads_are s names c.args.query.now c.requires.built) in
     (rw c.deref.ensures.value (search (rules, the_lemmas)), (within, (are, (c.requires.later, c.requires.most))))
 
 pub query_under-term_made-requires : goal.query_under-term_made-requires
@@ -143,8 +142,8 @@ pub query_under-joined-requires : goal.query_under-joined-requires
 query_under-joined-requires g t c κs within =
     let s : Scope = scope_in c.args.session.now in
     let names : Names = names_in c.args.session.now in
-    let is : built s (tree.row (map (next_term_tree names) c.deref-2.result.now)) ≡ true =
-    ap (λ items. built s (tree.row (map (next_term_tree names) items))) c.deref-2.ensures.value ∙ rest_is s names c.args.query.now c.requires.built in (
+    let is : IsBuilt s (tree.row (map (next_term_tree names) c.deref-2.result.now)) =
+    subst (λ items. IsBuilt s (tree.row (map (next_term_tree names) items))) (sym c.deref-2.ensures.value) (rest_is s names c.args.query.now c.requires.built) in (
       rw c.deref-2.ensures.value (search (rules, the_lemmas)),
       (
         within,
@@ -258,12 +257,12 @@ pub heads_stood-returns-in_err-free-clause-longer : goal.heads_stood-returns-in_
 heads_stood-returns-in_err-free-clause-longer g t c = longer_yet c.args.catalog.now c.loop-head.catalog c.head_stood.new.catalog c.loop-head.invariant.longer c.in_err-free.ensures.longer
 
 pub head_stood-query_made-requires : goal.head_stood-query_made-requires
-unfolding head_by query_by built
+unfolding head_by query_by IsBuilt
 head_stood-query_made-requires g t c κs within =
     let s : Scope = scope_in c.args.session.now in
     let names : Names = names_in c.args.session.now in
     let e : head_tree names c.args.head.now ≡ tree.GraphHead (named_by (name_of names) c.in-Graph.name) (query_tree names c.in-Graph.query) = rw c.in-Graph.is (search (rules, the_lemmas)) in
-    (search (rules, the_lemmas), (within, (sym (ap (built s) e) ∙ c.requires.built, (c.requires.later, c.requires.most))))
+    (search (rules, the_lemmas), (within, (subst (IsBuilt s) e c.requires.built, (c.requires.later, c.requires.most))))
 
 pub head_stood-returns-in-Path-clause-due : goal.head_stood-returns-in-Path-clause-due
 head_stood-returns-in-Path-clause-due g t c =
@@ -320,18 +319,23 @@ head_stood-returns-in_ok-made-in-Graph-clause-come g t c =
     one_comes graphs c.stand.new.catalog.graphs c.args.next made c.in_ok-made-in-Graph.ensures.comes c.stand.result
     (subst (λ (gs : List PropertyGraph). OnOk c.stand.result (c.stand.new.catalog.graphs ≡ gs ++ made.graph ∷ [])) same c.stand.ensures.added) (if_ok _ _ (λ free h. h.0) c.stand.result c.stand.ensures.rises)
 
-pub term_made-basic_made-requires-clause-walks : goal.term_made-basic_made-requires-clause-walks
-term_made-basic_made-requires-clause-walks g t c =
+pub term_made-basic_made-requires-clause-built : goal.term_made-basic_made-requires-clause-built
+term_made-basic_made-requires-clause-built g t c =
     let s : Scope = scope_in c.args.session.now in
     let names : Names = names_in c.args.session.now in
-    ap (λ b. are_searched (block_of s [] (basic_tree names b))) c.deref.ensures ∙ (sym (of_basic s names c.in-Basic.basic) ∙ (sym (ap (λ x. built s (term_tree names x)) c.in-Basic.is) ∙ c.requires.built))
+    subst (λ (b : Basic). IsBasicBuilt s (basic_tree names b)) (sym c.deref.ensures) (of_basic s names c.in-Basic.basic (subst (λ x. IsBuilt s (term_tree names x)) c.in-Basic.is c.requires.built))
+
+pub term_made-basic_made-requires-clause-standing : goal.term_made-basic_made-requires-clause-standing
+term_made-basic_made-requires-clause-standing g t c =
+    let catalog : NamedGraphs = c.args.catalog.now in
+    subst (λ (gs : List PropertyGraph). AreStanding gs c.args.next) (sym c.graphs.ensures.graphs) (stands_later catalog.graphs catalog.next c.args.next c.requires.later (stands catalog c.graphs.ensures.valid))
 
 pub term_made-query_made-requires : goal.term_made-query_made-requires
 term_made-query_made-requires g t c κs within =
     let s : Scope = scope_in c.args.session.now in
     let names : Names = names_in c.args.session.now in
-    let is : built s (query_tree names c.deref-in-Query.result.now) ≡ true =
-    ap (λ (q : Query). built s (query_tree names q)) c.deref-in-Query.ensures ∙ (sym (of_inner s names c.in-Query.query) ∙ (sym (ap (λ x. built s (term_tree names x)) c.in-Query.is) ∙ c.requires.built)) in
+    let is : IsBuilt s (query_tree names c.deref-in-Query.result.now) =
+    subst (λ (q : Query). IsBuilt s (query_tree names q)) (sym c.deref-in-Query.ensures) (of_inner s names c.in-Query.query (subst (λ x. IsBuilt s (term_tree names x)) c.in-Query.is c.requires.built)) in
     (search (rules, the_lemmas), (within, (is, (c.requires.later, c.requires.most))))
 
 pub term_made-returns-in-Graph-clause-due : goal.term_made-returns-in-Graph-clause-due

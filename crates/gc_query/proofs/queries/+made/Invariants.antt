@@ -1,11 +1,11 @@
-use Rattle.std.proofs.Common.{◌≡◌, ◌≤◌, ℕ, true, drop, map, Result}
+use Rattle.std.proofs.Common.{◌≡◌, ◌≤◌, ℕ, drop, map, Result}
 use Rattle.std.specs.List.{Contains}
 use Rattle.gc_ast.specs.QueryViews.{head_tree, next_term_tree}
 use Rattle.gc_ast.specs.Trees.{row}
 use Rattle.gc_sets.specs.Origins.{ComesFrom}
 use Rattle.gc_spec.specs.PropertyGraph.{PropertyGraph}
 use Rattle.gc_query.specs.Answered.{IsLonger, names_in, scope_in, standing_at}
-use Rattle.gc_query.specs.Built.{built}
+use Rattle.gc_query.specs.Built.{IsBuilt}
 use Rattle.gc_query.specs.Queries.{Heads, Joined}
 use Rattle.gc_query.specs.Standings.{Standing, Made}
 use Rattle.gc_query.specs.declared.fault.Fault.{Fault}
@@ -14,7 +14,7 @@ use Rattle.gc_query.proofs.queries.+made.Given as goal
 -- what stands under the heads that are left stands under all
 abbrev pub invariant-heads_stood-loop-head : goal.invariant-heads_stood-loop-head
 invariant-heads_stood-loop-head g l = record {
-  built : built (scope_in l.session) (row (map (head_tree (names_in l.session)) (drop l.head-index l.heads))) ≡ true;
+  built : IsBuilt (scope_in l.session) (row (map (head_tree (names_in l.session)) (drop l.head-index l.heads)));
   rises : l.fn.next ≤ l.free;
   later : l.catalog.next ≤ l.free;
   most : l.free ≤ 9007199254740992;
@@ -27,7 +27,7 @@ invariant-heads_stood-loop-head g l = record {
 -- what the terms that are left come to is what all come to
 abbrev pub invariant-joined-loop-later : goal.invariant-joined-loop-later
 invariant-joined-loop-later g l = record {
-  built : built (scope_in l.session) (row (map (next_term_tree (names_in l.session)) (drop l.later-index l.rest))) ≡ true;
+  built : IsBuilt (scope_in l.session) (row (map (next_term_tree (names_in l.session)) (drop l.later-index l.rest)));
   later : l.fn.first.next ≤ l.left.next;
   most : l.left.next ≤ 9007199254740992;
   kept : l.catalog ≡ l.initial.catalog;

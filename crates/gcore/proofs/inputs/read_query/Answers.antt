@@ -5,7 +5,7 @@ use Rattle.gcore.specs.Outcomes.{then_due, file_due, query_file_due, query_limit
 use Rattle.gcore.specs.QueryFiles.{IsFileOf, PlacedFile, placed, query_file_of}
 use Rattle.gcore.specs.Steps.{ReadsQuery}
 use Rattle.gcore.specs.declared.stop.Stop.{Stop}
-use Rattle.gcore.specs.declared.stop.Stop.TheVariants.{Usage, Unread, TooLarge, Refused, Text, Sorts, NotBuilt, Faulted, NoGraph, Unwritten, OutOfMemory}
+use Rattle.gcore.specs.declared.stop.Stop.TheVariants.{Usage, Unread, TooLarge, Refused, Text, Sorts, NotBuilt, Faulted, Unwritten, OutOfMemory}
 use Rattle.gcore.proofs.BuiltQueries.{file_is_built}
 use Rattle.gcore.proofs.inputs.read_query.Goals as goal
 
@@ -28,7 +28,6 @@ read_file_of graphs told before after name bytes (Err (Unread file)) f h = absur
 read_file_of graphs told before after name bytes (Err (TooLarge file)) f h = absurd h
 read_file_of graphs told before after name bytes (Err (Refused refusal file)) f h = absurd h
 read_file_of graphs told before after name bytes (Err (Faulted fault)) f h = absurd h
-read_file_of graphs told before after name bytes (Err NoGraph) f h = absurd h
 read_file_of graphs told before after name bytes (Err Unwritten) f h = absurd h
 
 pub returns-clause-outcome : goal.returns-clause-outcome

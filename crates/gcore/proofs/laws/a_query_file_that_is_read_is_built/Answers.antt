@@ -1,4 +1,5 @@
 use Rattle.gcore.proofs.BuiltQueries.{query_built}
+use Rattle.gcore.proofs.SpelledOrder.{spelled_order}
 use Rattle.gcore.proofs.SpelledQueries.{spelled_parts}
 use Rattle.gcore.proofs.laws.a_query_file_that_is_read_is_built.Goals as goal
 
@@ -7,3 +8,6 @@ returns-clause-parts c = spelled_parts
 
 pub returns-clause-built : goal.returns-clause-built
 returns-clause-built c = query_built
+
+pub returns-clause-order : goal.returns-clause-order
+returns-clause-order c = spelled_order

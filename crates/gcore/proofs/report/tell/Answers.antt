@@ -3,7 +3,7 @@ use Rattle.std.specs.Prelude.{codes}
 use Rattle.gcore.specs.Lines.{line, line_of}
 use Rattle.gcore.specs.Endings.{Change, Tells}
 use Rattle.gcore.specs.declared.stop.Stop.{Stop}
-use Rattle.gcore.specs.declared.stop.Stop.TheVariants.{Unread, TooLarge, Text, Sorts, NotBuilt, Faulted, NoGraph, Unwritten, OutOfMemory}
+use Rattle.gcore.specs.declared.stop.Stop.TheVariants.{Unread, TooLarge, Text, Sorts, NotBuilt, Faulted, Unwritten, OutOfMemory}
 use Rattle.gcore.proofs.report.tell.Goals as goal
 
 -- the line of a stop

@@ -8,7 +8,7 @@ use Rattle.gcore.specs.declared.command.Command.{Command}
 use Rattle.gcore.specs.declared.command.Command.TheVariants.{Run, Cert, Explain, Check, Make}
 use Rattle.gcore.specs.declared.pair.Pair.{Pair}
 use Rattle.gcore.specs.declared.stop.Stop.{Stop}
-use Rattle.gcore.specs.declared.stop.Stop.TheVariants.{Usage, Unread, TooLarge, Refused, Text, Sorts, NotBuilt, Faulted, NoGraph, Unwritten, OutOfMemory}
+use Rattle.gcore.specs.declared.stop.Stop.TheVariants.{Usage, Unread, TooLarge, Refused, Text, Sorts, NotBuilt, Faulted, Unwritten, OutOfMemory}
 use Rattle.gcore.proofs.top.gcore.Goals as goal
 
 abbrev files_of : List Pair → List (List ℕ)
@@ -64,7 +64,6 @@ may_stop call (Text refusal) held h = (has_query call.command call.files h.0, he
 may_stop call (Sorts rule place) held h = (has_query call.command call.files h.0, held)
 may_stop call NotBuilt held h = tt
 may_stop call (Faulted fault) held h = (has_query call.command call.files h.0, held, ends call.files call.command call.out (Faulted fault) h.1)
-may_stop call NoGraph held h = tt
 may_stop call Unwritten held h = tt
 may_stop call OutOfMemory held h = tt
 
