@@ -66,7 +66,7 @@ site_token a = unnamed_token a.token a.name
 
 -- the names of a CONSTRUCT and its MATCH, and the tokens of their unnamed elements
 abbrev pub all_names : Tree (RowOf AnItem) → Tree ABlock → Tree (RowOf AnOptional) → List (List ℕ)
-all_names items main optionals = use_names (match_uses [] main optionals) ++ use_names (all_of item_made items) ++ all_of item_stored items
+all_names items main optionals = use_names (match_uses [] main optionals) ++ (use_names (all_of item_made items) ++ all_of item_stored items)
 
 abbrev pub all_tokens : Scope → Tree (RowOf AnItem) → Tree ABlock → Tree (RowOf AnOptional) → List ℕ
 all_tokens s items main optionals = match_tokens main optionals ++ flat_map site_token (sites_of s items)

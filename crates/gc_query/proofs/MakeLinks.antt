@@ -26,8 +26,8 @@ use Rattle.gc_build_reading.specs.Items.{chain_of, item_chains, part_variables}
 use Rattle.gc_build_reading.specs.Places.{chain_places, edge_place, edge_places, ends_of, item_places, node_place, path_place, places_of}
 use Rattle.gc_build_reading.specs.Recipes.{makings_of, recipe_by}
 use Rattle.gc_build_reading.specs.Variables.{Makings, all_terms, bound_grouping, first_places, grouping_of, is_of, new_grouping, of_kind, variable_at, variables_at, with_first}
-use Rattle.gc_build_reading.specs.declared.place.Ends.{Ends}
-use Rattle.gc_build_reading.specs.declared.place.Place.{Place}
+use Rattle.gc_build_reading.specs.Places.{EdgeEnds as Ends}
+use Rattle.gc_build_reading.specs.Places.{APlace as Place}
 use Rattle.gc_build_recipe.specs.Recipes.{Chain, Recipe}
 use Rattle.gc_build_recipe.specs.declared.variable.Grouping.{Grouping}
 use Rattle.gc_build_recipe.specs.declared.variable.Grouping.TheVariants as by
@@ -39,7 +39,7 @@ use Rattle.gc_rows.proofs.Members.{cons_cases, contains_here, contains_later, ea
 use Rattle.gc_rows.specs.Rows.{lists}
 use Rattle.gc_sorts.specs.Breaches.{broken_if}
 use Rattle.gc_sorts.specs.Constructs.{Making, is_later, item_made, item_stored, part_stored, second_edge}
-use Rattle.gc_sorts.specs.Links.{Link, bound_link, bracket, fits, is_either, loose_edge, loose_item, loose_parts, name_if, same_neighbour}
+use Rattle.gc_sorts.specs.Links.{Link, bound_link, bracket, fits, is_either, loose_edge, loose_item, loose_parts, name_if, same_neighbour, same_way, turned}
 use Rattle.gc_sorts.specs.Patterns.{each}
 use Rattle.gc_sorts.specs.Uses.{all_of, use_at}
 use Rattle.gc_sorts.specs.Variables.{Use, first_use, has_use, sort_of}
@@ -157,6 +157,36 @@ neighbours : (a b : Option (List ℕ)) → same_neighbour a b ≡ true → (n : 
 neighbours None b h = absurd (cc h)
 neighbours (Some a) None h = absurd (cc h)
 neighbours (Some a) (Some b) h = (a, refl, ap Some (sym ((bytes_decides a b).0 h)))
+
+-- a link that fits another has its name and its neighbours, on the same sides or turned
+record FitsSo (a b : Link) : Type 0 where
+  same : a.name ≡ b.name
+  left : List ℕ
+  right : List ℕ
+  left_is : a.left ≡ Some left
+  right_is : a.right ≡ Some right
+  other : ((b.left ≡ Some left) × (b.right ≡ Some right)) ⊎ ((b.left ≡ Some right) × (b.right ≡ Some left))
+
+fits_so : (a b : Link) → fits a b ≡ true → FitsSo a b
+fits_so a b h =
+    let straight : Bool = same_neighbour a.left b.left && (same_neighbour a.right b.right && same_way a.way b.way) in
+    let crossed : Bool = same_neighbour a.left b.right && (same_neighbour a.right b.left && same_way a.way (turned b.way)) in
+    let both = and_parts (same_name a.name b.name) (straight || crossed) h in
+    let same : a.name ≡ b.name = (bytes_decides a.name b.name).0 both.0 in
+    ⊎_elim
+    (λ k.
+    let p = and_parts (same_neighbour a.left b.left) (same_neighbour a.right b.right && same_way a.way b.way) k in
+    let q = and_parts (same_neighbour a.right b.right) (same_way a.way b.way) p.1 in
+    let l = neighbours a.left b.left p.0 in
+    let r = neighbours a.right b.right q.0 in
+    record { same = same; left = l.0; right = r.0; left_is = l.1; right_is = r.1; other = inl (l.2, r.2) })
+    (λ k.
+    let p = and_parts (same_neighbour a.left b.right) (same_neighbour a.right b.left && same_way a.way (turned b.way)) k in
+    let q = and_parts (same_neighbour a.right b.left) (same_way a.way (turned b.way)) p.1 in
+    let l = neighbours a.left b.right p.0 in
+    let r = neighbours a.right b.left q.0 in
+    record { same = same; left = l.0; right = r.0; left_is = l.1; right_is = r.1; other = inr (r.2, l.2) })
+    (either_true straight crossed both.1)
 
 walk_no_node : (r : Role) → is_walk_role r ≡ true → sort.Node ≡ sort_of r → ⊥
 walk_no_node role.Node w h = cc w
@@ -378,22 +408,13 @@ module _ (s : Scope) (items : Tree (RowOf AnItem)) (m : Making) (links : List Li
         let bound : IsUnbroken (bound_link links link (bracket e.way a.token)) =
         subst (λ t. IsUnbroken (cond t (bound_link links link (bracket e.way a.token)) (broken_if (is_either e.way) LooseEdge (bracket e.way a.token)))) used loose in
         let any = any_member (fits link) links (not_false (list_any (fits link) links) (not_broken (not (list_any (fits link) links)) _ (bracket e.way a.token) bound)) in
-        let both = and_parts (same_name x.name any.0.name) _ any.2 in
-        let same : x.name ≡ any.0.name = (bytes_decides x.name any.0.name).0 both.0 in
+        let fit_so = fits_so link any.0 any.2 in
+        let left_node = e.left_node (variable_of s fit_so.left) (e.left_named fit_so.left fit_so.left_is) in
+        let right_node = e.right_node (variable_of s fit_so.right) (e.right_named fit_so.right fit_so.right_is) in
         ⊎_elim
-        (λ straight.
-        let p = and_parts (same_neighbour e.left_name any.0.left) _ straight in
-        let q = and_parts (same_neighbour e.right_name any.0.right) _ p.1 in
-        let l = neighbours e.left_name any.0.left p.0 in
-        let n = neighbours e.right_name any.0.right q.0 in
-        at any.0 any.1 same l.0 n.0 l.2 n.2 (e.left_node (variable_of s l.0) (e.left_named l.0 l.1)) (e.right_node (variable_of s n.0) (e.right_named n.0 n.1)))
-        (λ turned.
-        let p = and_parts (same_neighbour e.left_name any.0.right) _ turned in
-        let q = and_parts (same_neighbour e.right_name any.0.left) _ p.1 in
-        let l = neighbours e.left_name any.0.right p.0 in
-        let n = neighbours e.right_name any.0.left q.0 in
-        at any.0 any.1 same n.0 l.0 n.2 l.2 (e.right_node (variable_of s n.0) (e.right_named n.0 n.1)) (e.left_node (variable_of s l.0) (e.left_named l.0 l.1)))
-        (either_true _ _ both.1)
+        (λ o. at any.0 any.1 fit_so.same fit_so.left fit_so.right o.0 o.1 left_node right_node)
+        (λ o. at any.0 any.1 fit_so.same fit_so.right fit_so.left o.0 o.1 right_node left_node)
+        fit_so.other
       where
         no_path : (l : Link) → x.name ≡ l.name → IsPathName m.matched l → ⊥
         no_path l same p =
@@ -526,10 +547,10 @@ module _ (s : Scope) (items : Tree (RowOf AnItem)) (m : Making) (links : List Li
   pub items_linked : (recipe : Recipe) → recipe.variables ≡ r.variables → (some : Tree (RowOf AnItem)) → ((a : Site) → Contains (sites_of s some) a → Contains sites a)
       → ((q : Place) → Contains (places_of s some) q → Contains places q) → ((n : List ℕ) → Contains (all_of item_stored some) n → Contains stored n)
       → IsUnbroken (each (loose_item m.matched links) some) → AllByRecursion (AreLinked block recipe) (all_of (item_chains s) some)
-  items_linked recipe variables tree.none f g n h = tt
-  items_linked recipe variables (tree.more (tree.GraphItem graph) some) f g n h = items_linked recipe variables some f g n h.1
-  items_linked recipe variables (tree.more (tree.ChainItem parts changes condition) some) f g n h =
-      (chain_linked parts (chain_of s parts condition) refl recipe variables (λ a k. f a (Contains-append_left (chain_sites s None parts) (sites_of s some) a k))
+  items_linked recipe same tree.none f g n h = tt
+  items_linked recipe same (tree.more (tree.GraphItem graph) some) f g n h = items_linked recipe same some f g n h.1
+  items_linked recipe same (tree.more (tree.ChainItem parts changes condition) some) f g n h =
+      (chain_linked parts (chain_of s parts condition) refl recipe same (λ a k. f a (Contains-append_left (chain_sites s None parts) (sites_of s some) a k))
       (λ q k. g q (Contains-append_left (chain_places s None parts) (places_of s some) q k)) (λ k l. n k (Contains-append_left (all_of part_stored parts) (all_of item_stored some) k l)) h.0,
-      items_linked recipe variables some (λ a k. f a (Contains-append_right (chain_sites s None parts) (sites_of s some) a k))
+      items_linked recipe same some (λ a k. f a (Contains-append_right (chain_sites s None parts) (sites_of s some) a k))
       (λ q k. g q (Contains-append_right (chain_places s None parts) (places_of s some) q k)) (λ k l. n k (Contains-append_right (all_of part_stored parts) (all_of item_stored some) k l)) h.1)

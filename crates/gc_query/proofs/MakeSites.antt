@@ -14,8 +14,8 @@ use Rattle.gc_ast.specs.Trees.{Tree, Named, RowOf, AnItem, AConstructPart, ANewE
 use Rattle.gc_build.proofs.ClaimEnds.{any_member, member_any}
 use Rattle.gc_build_reading.specs.Items.{part_variables}
 use Rattle.gc_build_reading.specs.Places.{chain_places, edge_place, edge_places, element_variable, ends_of, item_places, next_variable, node_place, node_variable, part_places, path_place, places_of}
-use Rattle.gc_build_reading.specs.declared.place.Ends.{Ends}
-use Rattle.gc_build_reading.specs.declared.place.Place.{Place}
+use Rattle.gc_build_reading.specs.Places.{EdgeEnds as Ends}
+use Rattle.gc_build_reading.specs.Places.{APlace as Place}
 use Rattle.gc_ppg.specs.declared.shape.Kind.{Kind}
 use Rattle.gc_ppg.specs.declared.shape.Kind.TheVariants as kind
 use Rattle.gc_rows.proofs.Members.{cons_cases, contains_here, contains_later}
@@ -109,7 +109,7 @@ module _ (s : Scope) where
       (Contains-append_cases (item_places s item) (places_of s items) q m)
 
   -- what a place of a site is
-  edge_places_are : (left right : Option Sym) (way : Direction) (e : Tree ANewElement) (q : Place) → Contains (edge_places s left right way e) q
+  pub edge_places_are : (left right : Option Sym) (way : Direction) (e : Tree ANewElement) (q : Place) → Contains (edge_places s left right way e) q
       → (x : Sym) × (y : Sym) × (left ≡ Some x) × (right ≡ Some y) × (q ≡ edge_place (element_variable s e) (ends_of way x y))
   edge_places_are (Some x) (Some y) way e q m = (x, y, refl, refl, ⊎_elim sym (λ k. absurd (omega (arith, k.1))) (cons_cases _ [] q m))
   edge_places_are (Some x) None way e q m = absurd (omega (arith, m.1))
@@ -202,7 +202,7 @@ module _ (s : Scope) where
     wider_part es bs ms ns x f g (a_stored n m is) = a_stored n (g n m) is
     wider_part es bs ms ns x f g (an_edge a m is k e) = an_edge a (f a m) is k e
 
-    chain_part : (left : Option Sym) (left_name : Option (List ℕ)) (ps : Tree (RowOf AConstructPart)) → ((x : Sym) → left ≡ Some x → Node x) → ((n : List ℕ) → left_name ≡ Some n → left ≡ Some (variable_of s n))
+    pub chain_part : (left : Option Sym) (left_name : Option (List ℕ)) (ps : Tree (RowOf AConstructPart)) → ((x : Sym) → left ≡ Some x → Node x) → ((n : List ℕ) → left_name ≡ Some n → left ≡ Some (variable_of s n))
         → ((x : Sym) → Contains (nodes_of ps) x → Node x) → IsUnbroken (loose_parts matched links left_name ps) → (x : Sym) → Contains (all_of (part_variables s) ps) x
         → IsPart (chain_sites s left ps) (all_of part_stored ps) x
     chain_part left left_name tree.none l ln nodes h x m = absurd (omega (arith, m.1))

@@ -12,7 +12,7 @@ use Rattle.gc_base.specs.declared.place.Sym.{Sym}
 use Rattle.gc_ast.specs.Trees as tree
 use Rattle.gc_ast.specs.Trees.{Tree, Named, RowOf, AnItem, AConstructPart, ANewElement}
 use Rattle.gc_build_reading.specs.Places.{node_variable, next_variable}
-use Rattle.gc_build_reading.specs.declared.place.Place.{Place}
+use Rattle.gc_build_reading.specs.Places.{APlace as Place}
 use Rattle.gc_ppg.specs.declared.shape.Kind.{Kind}
 use Rattle.gc_ppg.specs.declared.shape.Kind.TheVariants as kind
 use Rattle.gc_rows.proofs.Members.{cons_cases, contains_here, to_flat_map}
@@ -180,11 +180,11 @@ module _ (m : Making) where
       by None is h = absurd h.0
       by (Some f) is h = (f, is, path_role (has_name [] n) f.role fits.token h.1)
 
-  first_matched : (n : List ℕ) (f : Use) → first_use m.matched n ≡ Some f → first_use (m.matched ++ m.made) n ≡ Some f
+  pub first_matched : (n : List ℕ) (f : Use) → first_use m.matched n ≡ Some f → first_use (m.matched ++ m.made) n ≡ Some f
   first_matched n f h = find-append (λ (u : Use). same_name n u.name) m.matched m.made ∙ ap (λ o. option_or o (first_use m.made n)) h
 
   -- so a name is not both
-  not_stored : (a : Site) → SiteFits m a → IsElement a.kind → (x : Named) → a.name ≡ Some x → StoredFits m x.name → ⊥
+  pub not_stored : (a : Site) → SiteFits m a → IsElement a.kind → (x : Named) → a.name ≡ Some x → StoredFits m x.name → ⊥
   not_stored a fits element x named stored =
       let own = site_role a fits element x named in
       let path = stored_role x.name stored in

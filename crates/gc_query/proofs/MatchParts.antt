@@ -95,7 +95,7 @@ module _ (s : Scope) (names : List (List ℕ)) (tokens : List ℕ) (apart : AreA
   each_at f [] u h m = absurd (omega (arith, m.1))
   each_at f (v ∷ us) u h m = ⊎_elim (λ e. subst (λ w. IsUnbroken (f w)) e h.0) (λ k. each_at f us u h.1 k) (cons_cases v us u m)
 
-  pub OptionalsAmong : Tree (RowOf AnOptional) → Type 0
+  unfoldable pub OptionalsAmong : Tree (RowOf AnOptional) → Type 0
   OptionalsAmong tree.none = Unit {0}
   OptionalsAmong (tree.more (tree.Optional token b) os) = AreAmong names tokens b × OptionalsAmong os
 
