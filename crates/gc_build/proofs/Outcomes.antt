@@ -10,10 +10,9 @@ use Rattle.gc_build_recipe.specs.Recipes.{Recipe}
 use Rattle.gc_spec.specs.PropertyGraph.{PropertyGraph}
 use Rattle.gc_build.specs.AllPaths.{Patterns}
 use Rattle.gc_build.specs.Claimed.{AreClaims}
-use Rattle.gc_build.specs.Constructed.{Constructs, ConstructsWhole, IsAfter, IsBuilt, IsDue, IsRefusal, IsSound, IsUnfit, making, making_by}
+use Rattle.gc_build.specs.Constructed.{Constructs, IsAfter, IsBuilt, IsDue, IsRefusal, IsSound, making, making_by}
 use Rattle.gc_build.specs.declared.built.Built.{Built}
 use Rattle.gc_build.specs.declared.built.Refusal.{Refusal}
-use Rattle.gc_build.specs.declared.built.Refusal.TheVariants as refusal
 use Rattle.gc_sets.specs.Claims.{Claims, IsClaimed}
 use Rattle.std.specs.Result.{IsErr, IsErrAnd}
 use Rattle.gc_build.specs.Makings.{Making}
@@ -39,26 +38,13 @@ module _ (s : Setting) (r : Recipe) (ps : Patterns) (next : ℕ) (n : Numbering)
       behind = fits.0 ∙ ap (λ m. next + m.next) is;
     }
 
--- the graph of what is claimed, or that there is none
+-- the graph of what is claimed
 module _ (s : Setting) (r : Recipe) (ps : Patterns) (next : ℕ) (claims : Claims) (after : ℕ) (h : IsDue s r ps next claims after) where
   pub built : (g : PropertyGraph) → IsClaimed claims g → IsBuilt s r ps next (record { graph = g; next = after })
   built g is = record { sound = h.sound; claims = claims; due = h.due; graph = is; after = h.behind }
 
-  pub unfit : ((g : PropertyGraph) → IsClaimed claims g → ⊥) → IsUnfit s r ps next
-  unfit none = record { sound = h.sound; claims = claims; due = h.due; none = none }
-
 -- a refusal is that of the whole
-pub refused : (s : Setting) (r : Recipe) (ps : Patterns) (next : ℕ) (e : Refusal) → IsRefusal s r next e → (result : Result (Option Built) Refusal) → IsErr result → IsErrAnd result (λ other. other ≡ e)
+pub refused : (s : Setting) (r : Recipe) (ps : Patterns) (next : ℕ) (e : Refusal) → IsRefusal s r next e → (result : Result Built Refusal) → IsErr result → IsErrAnd result (λ other. other ≡ e)
     → Constructs s r ps next result
 refused s r ps next e h (Ok b) err same = absurd (cc err)
-refused s r ps next e h (Err other) err same = subst (λ (x : Refusal). Constructs s r ps next (Err x)) (sym same) (by e h)
-  where
-    by : (e : Refusal) → IsRefusal s r next e → Constructs s r ps next (Err e)
-    by (refusal.Fault f) k = k
-    by (refusal.IdsSpent count) k = k
-    by refusal.Memory k = tt
-
-pub refused_whole : (s : Setting) (r : Recipe) (ps : Patterns) (next : ℕ) (e : Refusal) → IsRefusal s r next e → (result : Result Built Refusal) → IsErr result → IsErrAnd result (λ other. other ≡ e)
-    → ConstructsWhole s r ps next result
-refused_whole s r ps next e h (Ok b) err same = absurd (cc err)
-refused_whole s r ps next e h (Err other) err same = subst (λ (x : Refusal). IsRefusal s r next x) (sym same) h
+refused s r ps next e h (Err other) err same = subst (λ (x : Refusal). IsRefusal s r next x) (sym same) h

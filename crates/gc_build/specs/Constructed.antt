@@ -66,30 +66,16 @@ pub record IsBuilt (s : Setting) (r : Recipe) (ps : Patterns) (next : ℕ) (b : 
   pub graph : IsClaimed claims b.graph
   pub after : b.next ≡ next + needed s r
 
--- what is claimed is no graph
-pub record IsUnfit (s : Setting) (r : Recipe) (ps : Patterns) (next : ℕ) : Type 0 where
-  pub sound : IsSound s r next
-  pub claims : Claims
-  pub due : AreDue s r ps next claims
-  pub none : (g : PropertyGraph) → IsClaimed claims g → ⊥
-
--- what a CONSTRUCT comes to on a table of a MATCH with these patterns
-abbrev pub Constructs : Setting → Recipe → Patterns → (next : ℕ) → Result (Option Built) Refusal → Type 0
-Constructs s r ps next (Ok (Some b)) = IsBuilt s r ps next b
-Constructs s r ps next (Ok None) = IsUnfit s r ps next
-Constructs s r ps next (Err (refusal.Fault f)) = fault s r ≡ Some f
-Constructs s r ps next (Err (refusal.IdsSpent count)) = IsSpent s r next count
-Constructs s r ps next (Err refusal.Memory) = ⊤
-
--- what a CONSTRUCT comes to where there always is a graph
+-- why nothing is made: the first assignment that is undefined, or too few identities; want of memory is free
 abbrev pub IsRefusal : Setting → Recipe → (next : ℕ) → Refusal → Type 0
 IsRefusal s r next (refusal.Fault f) = fault s r ≡ Some f
 IsRefusal s r next (refusal.IdsSpent count) = IsSpent s r next count
 IsRefusal s r next refusal.Memory = ⊤
 
-abbrev pub ConstructsWhole : Setting → Recipe → Patterns → (next : ℕ) → Result Built Refusal → Type 0
-ConstructsWhole s r ps next (Ok b) = IsBuilt s r ps next b
-ConstructsWhole s r ps next (Err refused) = IsRefusal s r next refused
+-- what a CONSTRUCT comes to on a table of a MATCH with these patterns, where what it claims is of one graph
+abbrev pub Constructs : Setting → Recipe → Patterns → (next : ℕ) → Result Built Refusal → Type 0
+Constructs s r ps next (Ok b) = IsBuilt s r ps next b
+Constructs s r ps next (Err refused) = IsRefusal s r next refused
 
 -- all that is claimed, and the identity behind the new ones
 pub record IsDue (s : Setting) (r : Recipe) (ps : Patterns) (next : ℕ) (claims : Claims) (after : ℕ) : Type 0 where

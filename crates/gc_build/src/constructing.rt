@@ -1,10 +1,10 @@
-ghost use Rattle.std.specs.Prelude.{◌≡◌, IfErr, IfOk, IfSome};
+ghost use Rattle.std.specs.Prelude.{◌≡◌, IfErr, IfOk};
 ghost use Rattle.gc_alg.specs.Views.{block_tree};
 ghost use Rattle.gc_walks.specs.Databases.{AreOnGraphs};
 ghost use Rattle.gc_build.specs.AllPaths.{AreReady, AreSearchable};
 ghost use Rattle.gc_build.specs.Claimed.{AreClaims, seen};
-ghost use Rattle.gc_build.specs.Constructed.{Constructs, ConstructsWhole, IsAfter, IsDue, IsRefusal, making_by};
-ghost use Rattle.gc_build.specs.Fitting.{Fits, FitsWhole};
+ghost use Rattle.gc_build.specs.Constructed.{Constructs, IsAfter, IsDue, IsRefusal, making_by};
+ghost use Rattle.gc_build.specs.Fitting.{FitsWhole};
 ghost use Rattle.gc_build.specs.Patterns.{plain};
 ghost use Rattle.gc_sets.specs.Origins.{ComesFrom};
 
@@ -19,49 +19,19 @@ use gc_build_descriptions::{DescribedList, Refusal as DescribeRefusal, describe}
 use gc_build_numbers::{Numbering, Setting, number};
 use gc_build_recipe::Recipe;
 use gc_prod::SegmentTable;
-use gc_sets::{unite, unite_agreed};
+use gc_sets::unite_agreed;
 use std::sync::ledger::Ledger;
 
 // One more than the largest identity.
 const END: u64 = 9_007_199_254_740_992;
 
-/// The graph that a CONSTRUCT makes of a table, and the identity that comes next, where new elements have
-/// identities from `next` on. It is refused as `Fault` exactly where an assignment is undefined on a row
-/// of a group of its variable, and else as `IdsSpent` exactly where the new identities would pass the
-/// largest. There is `None` exactly where what it claims is no graph. What lies on the walks of an ALL path
-/// is looked for by the block of the MATCH and the segments of views on its graphs. Where the recipe fits the
-/// table, each element of the graph has the identity, kind, ends and walk of one of the graphs, or an identity
-/// from `next` on. `steps` counts what is read.
+/// The graph that a CONSTRUCT makes of a table that its recipe fits whole, and the identity that comes next, where new
+/// elements have identities from `next` on. It is refused as `Fault` exactly where an assignment is undefined on a row
+/// of a group of its variable, and else as `IdsSpent` exactly where the new identities would pass the largest. What lies
+/// on the walks of an ALL path is looked for by the block of the MATCH and the segments of views on its graphs. Each
+/// element of the graph has the identity, kind, ends and walk of one of the graphs, or an identity from `next` on.
+/// `steps` counts what is read.
 pub fn construct<L: Ledger>(
-    setting: &Setting<'_>,
-    recipe: &Recipe,
-    block: &Block,
-    segments: &SegmentTable,
-    next: u64,
-    steps: &mut Steps<L>,
-) -> Result<Option<Built>, Refusal>
-    requires segments { AreOnGraphs setting.now.graphs segments.now }
-    requires searchable { AreSearchable (block_tree block.now) }
-    ensures made { Constructs setting.now recipe.now (record { block = block_tree block.now; segments = segments.now }) next result }
-    ensures comes { Fits setting.now recipe.now → IfOk result (λ made. IfSome made (λ b. ComesFrom setting.now.graphs next b.next b.graph)) }
-{
-    let patterns = Patterns { block, segments };
-    let told = all_due(setting, recipe, &patterns, next, steps)?;
-    let next = told.after;
-    match unite(
-        setting.alloc,
-        told.claims.nodes,
-        told.claims.edges,
-        told.claims.paths,
-    )? {
-        None => Ok(None),
-        Some(graph) => Ok(Some(Built { graph, next })),
-    }
-}
-
-/// The graph that a CONSTRUCT makes of a table which its recipe fits whole, and the identity that comes next.
-/// There always is one: it is refused as `Fault` or as `IdsSpent` exactly where `construct` is, or for want of memory.
-pub fn construct_whole<L: Ledger>(
     setting: &Setting<'_>,
     recipe: &Recipe,
     block: &Block,
@@ -72,7 +42,7 @@ pub fn construct_whole<L: Ledger>(
     requires segments { AreOnGraphs setting.now.graphs segments.now }
     requires searchable { AreSearchable (block_tree block.now) }
     requires whole { FitsWhole setting.now recipe.now (record { block = block_tree block.now; segments = segments.now }) next }
-    ensures made { ConstructsWhole setting.now recipe.now (record { block = block_tree block.now; segments = segments.now }) next result }
+    ensures made { Constructs setting.now recipe.now (record { block = block_tree block.now; segments = segments.now }) next result }
     ensures comes { IfOk result (λ b. ComesFrom setting.now.graphs next b.next b.graph) }
 {
     let patterns = Patterns { block, segments };

@@ -23,13 +23,11 @@ mod paths;
 mod patterns;
 mod spans;
 mod standing;
-#[cfg(test)]
-mod tests;
 mod walks;
 
 pub use built::{Built, Refusal};
-pub use constructing::{construct, construct_whole};
+pub use constructing::construct;
 pub use laws::{
-    a_recipe_with_the_links_of_its_block_fits_whole, the_rows_of_a_block_bind_nodes_of_its_graphs, what_is_built_comes_from_the_graphs,
-    what_is_claimed_where_a_recipe_fits_is_of_one_graph,
+    a_recipe_with_the_links_of_its_block_fits_whole, the_rows_of_a_block_bind_nodes_of_its_graphs,
+    what_is_built_comes_from_the_graphs, what_is_claimed_where_a_recipe_fits_is_of_one_graph,
 };

@@ -19,7 +19,7 @@ use Rattle.gc_build.proofs.TableRows.{rows_bind}
 use Rattle.gc_build.specs.AllPaths.{Patterns}
 use Rattle.gc_build.specs.Fitting.{AreDistinct, Fits, FitsWhole}
 use Rattle.gc_build.specs.Linked.{HasLinksOf}
-use Rattle.gc_build.specs.Constructed.{ConstructsWhole}
+use Rattle.gc_build.specs.Constructed.{Constructs}
 use Rattle.gc_build.specs.declared.built.Built.{Built}
 use Rattle.gc_build.specs.declared.built.Refusal.{Refusal}
 use Rattle.gc_build.specs.declared.built.Refusal.TheVariants as build
@@ -53,7 +53,7 @@ use Rattle.gc_query.specs.declared.fault.Fault.TheVariants.{CostPastRange}
 use Rattle.gc_query.specs.declared.fault.QueryRefusal.{QueryRefusal}
 
 -- what a CONSTRUCT on a table comes to is an outcome of the query
-comes : (s : Setting) (r : Recipe) (ps : Patterns) (next token : ℕ) (outcome : Result Built Refusal) → ConstructsWhole s r ps next outcome
+comes : (s : Setting) (r : Recipe) (ps : Patterns) (next token : ℕ) (outcome : Result Built Refusal) → Constructs s r ps next outcome
     → IsAnswered (ComesTo s r ps next token) (outcome_of token outcome)
 comes s r ps next token (Ok b) h = h
 comes s r ps next token (Err (build.Fault f)) h = h
@@ -69,7 +69,7 @@ comes_of graphs next token (Err (build.IdsSpent count)) h = tt
 comes_of graphs next token (Err build.Memory) h = tt
 
 -- after it the next identity is no less, and at most one more than the largest
-pub rises : (s : Setting) (r : Recipe) (ps : Patterns) (next token : ℕ) (outcome : Result Built Refusal) → ConstructsWhole s r ps next outcome → Rises next (outcome_of token outcome)
+pub rises : (s : Setting) (r : Recipe) (ps : Patterns) (next token : ℕ) (outcome : Result Built Refusal) → Constructs s r ps next outcome → Rises next (outcome_of token outcome)
 rises s r ps next token (Ok b) h = (omega (arith, h.after), omega (arith, h.after, h.sound.room))
 rises s r ps next token (Err (build.Fault f)) h = tt
 rises s r ps next token (Err (build.IdsSpent count)) h = tt
@@ -137,13 +137,13 @@ module _ (s : Scope) (names : Names) (at : Standing) (basic : Basic) (block : Bl
     abbrev MadeBy : Tree ABlock → (token : ℕ) → Result Made QueryRefusal → Type 0
     MadeBy b token result = IsAnswered (ComesTo (read_by b) (asked b) (patterns b) at.next token) result
 
-    pub table_comes : (r : Recipe) → r ≡ asked (block_tree block) → (outcome : Result Built Refusal) → ConstructsWhole read_in r (patterns (block_tree block)) at.next outcome
+    pub table_comes : (r : Recipe) → r ≡ asked (block_tree block) → (outcome : Result Built Refusal) → Constructs read_in r (patterns (block_tree block)) at.next outcome
         → (result : Result Made QueryRefusal) → result ≡ outcome_of (out-Basic basic).token outcome → IsAnswered (Comes s at (basic_tree names basic) segments table) result
     table_comes r same outcome made result told =
         let S : Setting = record { schema = table.schema; rows = table.rows; reads = reads_of (block_tree block); graphs = at.graphs } in
         let there : read_in ≡ S = λ i. record { schema = table.schema; rows = table.rows; reads = sym (reads_are block) i; graphs = at.graphs } in
-        let right : ConstructsWhole S (asked (block_tree block)) (patterns (block_tree block)) at.next outcome =
-        subst (λ (x : Recipe). ConstructsWhole S x (patterns (block_tree block)) at.next outcome) same (subst (λ (x : Setting). ConstructsWhole x r (patterns (block_tree block)) at.next outcome) there made) in
+        let right : Constructs S (asked (block_tree block)) (patterns (block_tree block)) at.next outcome =
+        subst (λ (x : Recipe). Constructs S x (patterns (block_tree block)) at.next outcome) same (subst (λ (x : Setting). Constructs x r (patterns (block_tree block)) at.next outcome) there made) in
         let here : MadeBy (block_tree block) (out-Basic basic).token result =
         subst (MadeBy (block_tree block) (out-Basic basic).token) (sym told) (comes S (asked (block_tree block)) (patterns (block_tree block)) at.next (out-Basic basic).token outcome right) in
         subst (λ token. MadeBy (block_of s [] (basic_tree names basic)) token result) (sym (token_is names basic)) (subst (λ (b : Tree ABlock). MadeBy b (out-Basic basic).token result) is here)

@@ -5,7 +5,7 @@ use Rattle.gc_ast.specs.Trees.{Tree, AQuery, ATerm, AHead, ANextTerm, AStatement
 use Rattle.gc_ast.specs.declared.query.SetOp.{SetOp}
 use Rattle.gc_ast.specs.declared.query.SetOp.TheVariants as op
 use Rattle.gc_build.specs.AllPaths.{Patterns}
-use Rattle.gc_build.specs.Constructed.{IsBuilt, IsUnfit}
+use Rattle.gc_build.specs.Constructed.{IsBuilt}
 use Rattle.gc_build.specs.declared.built.Built.{Built}
 use Rattle.gc_build.proofs.OneClaims.{one_due}
 use Rattle.gc_build_numbers.specs.Settings.{Setting}
@@ -38,16 +38,11 @@ same_made : (a b : Made) → a.graph ≡ b.graph → a.next ≡ b.next → made_
 same_made a b g n = λ i. Ok (record { graph = g i; next = n i })
 
 module _ (s : Setting) (r : Recipe) (ps : Patterns) (next : ℕ) where
-  -- the graph of what is claimed is one, and there is one or none
+  -- the graph of what is claimed is one
   same_built : (a b : Built) → IsBuilt s r ps next a → IsBuilt s r ps next b → a.graph ≡ b.graph
   same_built a b p q =
       let claims : p.claims ≡ q.claims = one_due s r ps next p.claims q.claims p.due q.due in
       one_claimed q.claims a.graph b.graph (subst (λ c. IsClaimed c a.graph) claims p.graph) q.graph
-
-  not_both : (a : Built) → IsBuilt s r ps next a → IsUnfit s r ps next → ⊥
-  not_both a p q =
-      let claims : p.claims ≡ q.claims = one_due s r ps next p.claims q.claims p.due q.due in
-      q.none a.graph (subst (λ c. IsClaimed c a.graph) claims p.graph)
 
   -- what a recipe comes to on a table is one outcome
   one_coming : (token : ℕ) (a b : Result Made Fault) → ComesTo s r ps next token a → ComesTo s r ps next token b → a ≡ b

@@ -20,7 +20,7 @@ use crate::tables::table_of;
 use gc_alg::Block;
 use gc_ast::Basic;
 use gc_base::Steps;
-use gc_build::{Built, Refusal, construct_whole};
+use gc_build::{Built, Refusal, construct};
 use gc_build_numbers::Setting;
 use gc_build_reading::{found_variables, recipe};
 use gc_lower::lower_match;
@@ -107,7 +107,7 @@ fn table_made<L: Ledger>(
         reads: &matched.block.reads,
         graphs,
     };
-    let outcome = construct_whole(
+    let outcome = construct(
         &setting,
         &recipe,
         matched.block,

@@ -89,7 +89,24 @@ names_left names ts early late e h = λ w m. h w (subst (λ us. Contains us (Wor
 names_right : (names : Names) (ts early late : List Token) → ts ≡ early ++ late → HasNames names ts → HasNames names late
 names_right names ts early late e h = λ w m. h w (subst (λ us. Contains us (Word w)) (sym e) (Contains-append_right early late (Word w) m))
 
-module _ (names : Names) where
+-- one after the other, with the token between them
+pub record InTwo {A B : Type 0} (P : ℕ → A → ℕ → Type 0) (Q : ℕ → B → ℕ → Type 0) (from : ℕ) (v : A × B) (upto : ℕ) : Type 0 where
+  pub mid : ℕ
+  pub first : P from v.0 mid
+  pub second : Q mid v.1 upto
+  pub low : from ≤ mid
+  pub high : mid ≤ upto
+
+abbrev pub IfIn : {A : Type 0} → (ℕ → A → ℕ → Type 0) → ℕ → Option A → ℕ → Type 0
+IfIn P from None upto = from ≤ upto
+IfIn P from (Some a) upto = P from a upto
+
+-- one behind another
+abbrev pub InTurn : {A : Type 0} → (ℕ → A → ℕ → Type 0) → ℕ → List A → ℕ → Type 0
+InTurn P from [] upto = from ≤ upto
+InTurn P from (x ∷ xs) upto = (mid : ℕ) × P from x mid × InTurn P mid xs upto
+
+module _ {names : Names} where
   pub anywhere : {A : Type 0} {L : Lang A} → Rises L → Spans names L Anywhere
   anywhere l = record { up = l.rises; spans = λ p q ts a s h. l.rises p q ts a s }
 
@@ -116,14 +133,6 @@ module _ (names : Names) where
     up = λ p q ts b s. l.up p q ts s.value s.spelled;
     spans = λ p q ts b s h. subst (λ x. Q p.token x q.token) (sym s.made) (f p.token q.token s.value (l.up p q ts s.value s.spelled) (l.spans p q ts s.value s.spelled h));
   }
-
-  -- one after the other, with the token between them
-  pub record InTwo {A B : Type 0} (P : ℕ → A → ℕ → Type 0) (Q : ℕ → B → ℕ → Type 0) (from : ℕ) (v : A × B) (upto : ℕ) : Type 0 where
-    pub mid : ℕ
-    pub first : P from v.0 mid
-    pub second : Q mid v.1 upto
-    pub low : from ≤ mid
-    pub high : mid ≤ upto
 
   pub both_span : {A B : Type 0} {L : Lang A} {M : Lang B} {P : ℕ → A → ℕ → Type 0} {Q : ℕ → B → ℕ → Type 0} → Spans names L P → Spans names M Q → Spans names (L ⋅ M) (InTwo P Q)
   both_span l m = record {
@@ -161,21 +170,12 @@ module _ (names : Names) where
       by p q ts a (this s) h = l.spans p q ts a s h
       by p q ts a (that s) h = m.spans p q ts a s h
 
-  abbrev pub IfIn : {A : Type 0} → (ℕ → A → ℕ → Type 0) → ℕ → Option A → ℕ → Type 0
-  IfIn P from None upto = from ≤ upto
-  IfIn P from (Some a) upto = P from a upto
-
   pub perhaps_span : {A : Type 0} {L : Lang A} {P : ℕ → A → ℕ → Type 0} → Spans names L P → Spans names (optional L) (IfIn P)
   perhaps_span {A = A} {L = L} {P = P} l = record { up = (rises_perhaps (rising l)).rises; spans = by }
     where
       by : (p q : Point) (ts : List Token) (o : Option A) → optional L p ts o q → HasNames names ts → IfIn P p.token o q.token
       by p q ts None s h = let e = ap token_of s.1 in omega (arith, e)
       by p q ts (Some a) s h = l.spans p q ts a s h
-
-  -- one behind another
-  abbrev pub InTurn : {A : Type 0} → (ℕ → A → ℕ → Type 0) → ℕ → List A → ℕ → Type 0
-  InTurn P from [] upto = from ≤ upto
-  InTurn P from (x ∷ xs) upto = (mid : ℕ) × P from x mid × InTurn P mid xs upto
 
   pub each_span : {A : Type 0} {L : Lang A} {P : ℕ → A → ℕ → Type 0} → Spans names L P → Spans names (many L) (InTurn P)
   each_span {A = A} {L = L} {P = P} l = record { up = (rises_each (rising l)).rises; spans = by }

@@ -32,13 +32,13 @@ word_rises : {A B : Type 0} {Means : Token → A → Type 0} {make : ℕ → A �
 word_rises = rises_made rises_one
 
 label_rises : Rises label
-label_rises = rises_pair rises_one (rises_perhaps rises_one)
+label_rises = rises_pair (rises_pair rises_one rises_one) (rises_perhaps rises_one)
 
 any_rises : Rises any
-any_rises = rises_pair rises_one (rises_perhaps rises_one)
+any_rises = rises_made (rises_pair rises_one (rises_perhaps rises_one))
 
 test_rises : Rises test
-test_rises = rises_made (rises_pair rises_one rises_one)
+test_rises = rises_made (rises_pair rises_one (rises_pair rises_one rises_one))
 
 name_rises : Rises name
 name_rises = rises_made rises_one
@@ -75,29 +75,29 @@ module _ (names : Names) where
   abbrev Name : ℕ → Named → ℕ → Type 0
   Name from x upto = IsNameIn names from x upto
 
-  order_wide : {k : Kind} → Wide (Order {k})
+  order_wide : {k : Kind} → Wide (Order {k = k})
   order_wide = record { wider = λ low from upto high t l h n. order_wider names low from upto high t l h n }
 
   name_wide : Wide Name
   name_wide = record { wider = λ low from upto high x l h n. name_wider names low from upto high x l h n }
 
-  anywhere_wide : {A : Type 0} → Wide (Anywhere {A})
+  anywhere_wide : {A : Type 0} → Wide (Anywhere {A = A})
   anywhere_wide = record { wider = λ low from upto high a l h n. omega (arith, l, h, n) }
 
-  turn_wide : {A : Type 0} {P : ℕ → A → ℕ → Type 0} → Wide P → Wide (InTurn names P)
+  turn_wide : {A : Type 0} {P : ℕ → A → ℕ → Type 0} → Wide P → Wide (InTurn P)
   turn_wide {A = A} {P = P} w = record { wider = by }
     where
-      by : (low from upto high : ℕ) (xs : List A) → low ≤ from → upto ≤ high → InTurn names P from xs upto → InTurn names P low xs high
+      by : (low from upto high : ℕ) (xs : List A) → low ≤ from → upto ≤ high → InTurn P from xs upto → InTurn P low xs high
       by low from upto high [] l h n = omega (arith, l, h, n)
       by low from upto high (x ∷ xs) l h n = (n.0, w.wider low from n.0 n.0 x l (omega arith) n.1, by n.0 n.0 upto high xs (omega arith) h n.2)
 
   -- trees one behind another, as a row
-  row_order : {k : Kind} (from upto : ℕ) (ts : List (Tree k)) → InTurn names Order from ts upto → Order from (row ts) upto
+  row_order : {k : Kind} (from upto : ℕ) (ts : List (Tree k)) → InTurn Order from ts upto → Order from (row ts) upto
   unfolding IsInOrder
   row_order from upto [] h = h
   row_order from upto (t ∷ ts) h = (h.0, h.1, row_order h.0 upto ts h.2)
 
-  if_name : (from upto : ℕ) (o : Option Named) → IfIn names Name from o upto → IsNameIf names from o upto
+  if_name : (from upto : ℕ) (o : Option Named) → IfIn Name from o upto → IsNameIf names from o upto
   if_name from upto None h = h
   if_name from upto (Some x) h = h
 
@@ -121,19 +121,19 @@ module _ (names : Names) where
 
   property_spans : Spans names property_use Order
   unfolding IsInOrder
-  property_spans = made_spans Order (both_span (anywhere names rises_one) (behind_span name_wide rises_one (name_spans names))) (λ from upto v up h. name_wider names from h.mid upto upto v.1 h.low (omega arith) h.second)
+  property_spans = made_spans Order (both_span (anywhere rises_one) (behind_span name_wide rises_one (name_spans))) (λ from upto v up h. name_wider names from h.mid upto upto v.1 h.low (omega arith) h.second)
 
-  properties_span : Spans names property_uses (InTurn names Order)
-  properties_span = before_span names (turn_wide order_wide) (behind_span names (turn_wide order_wide) rises_one (parted_span names order_wide rises_one property_spans)) rises_one
+  properties_span : Spans names property_uses (InTurn Order)
+  properties_span = before_span (turn_wide order_wide) (behind_span (turn_wide order_wide) rises_one (parted_span order_wide rises_one property_spans)) rises_one
 
-  listed_order : {k : Kind} (from upto : ℕ) (o : Option (List (Tree k))) → IfIn names (InTurn names Order) from o upto → Order from (row (listed o)) upto
+  listed_order : {k : Kind} (from upto : ℕ) (o : Option (List (Tree k))) → IfIn (InTurn Order) from o upto → Order from (row (listed o)) upto
   unfolding IsInOrder
   listed_order from upto None h = h
   listed_order from upto (Some ts) h = row_order from upto ts h
 
   element_spans : Spans names element ElementIn
   element_spans =
-      made_spans ElementIn (both_span (perhaps_span names (name_spans names)) (both_span (anywhere names (rises_each labels_rise)) (perhaps_span names properties_span)))
+      made_spans ElementIn (both_span (perhaps_span (name_spans)) (both_span (anywhere (rises_each labels_rise)) (perhaps_span properties_span)))
       (λ from upto v up h. record {
         mid = h.mid;
         named = if_name from h.mid v.0 h.first;
@@ -147,7 +147,7 @@ module _ (names : Names) where
 
   node_spans : Spans names node Order
   unfolding IsInOrder
-  node_spans = made_spans Order (before_span names next_wide (next_span names element_spans) rises_one) (λ from upto e up h. placed_order from upto e h)
+  node_spans = made_spans Order (before_span next_wide (next_span element_spans) rises_one) (λ from upto e up h. placed_order from upto e h)
     where
       next_wide : Wide (λ from (e : Unplaced) upto. ElementIn (from + 1) e upto)
       next_wide = record { wider = λ low from upto high e l h n. element_wide.wider (low + 1) (from + 1) upto high e (omega (arith, l)) h n }
@@ -155,10 +155,10 @@ module _ (names : Names) where
   -- what stands in an edge, behind its first token
   edge_span : {A : Type 0} {L : Lang A} {P : ℕ → A → ℕ → Type 0} → Wide P → Spans names L P → Spans names (edge_of L) (λ from v upto. P (from + 1) v.0 upto)
   edge_span {A = A} {L = L} {P = P} wide l =
-      either_span names
-      (made_spans (λ from (v : A × Direction) upto. P (from + 1) v.0 upto) (both_span (before_span names two_wide (before_span names two_wide (next_span names (next_span names l)) rises_one) rises_one) (anywhere names (rises_perhaps rises_one)))
+      either_span
+      (made_spans (λ from (v : A × Direction) upto. P (from + 1) v.0 upto) (both_span (before_span two_wide (before_span two_wide (next_span (next_span l)) rises_one) rises_one) (anywhere (rises_perhaps rises_one)))
       (λ from upto v up h. wide.wider (from + 1) ((from + 1) + 1) h.mid upto v.0 (omega arith) h.high h.first))
-      (made_spans (λ from (v : A × Direction) upto. P (from + 1) v.0 upto) (before_span names two_wide (before_span names two_wide (next_span names (next_span names (behind_span names wide rises_one l))) rises_one) rises_one)
+      (made_spans (λ from (v : A × Direction) upto. P (from + 1) v.0 upto) (before_span two_wide (before_span two_wide (next_span (next_span (behind_span wide rises_one l))) rises_one) rises_one)
       (λ from upto v up h. wide.wider (from + 1) ((from + 1) + 1) upto upto v (omega arith) (omega arith) h))
     where
       two_wide : Wide (λ from a upto. P ((from + 1) + 1) a upto)
@@ -181,42 +181,42 @@ module _ (names : Names) where
   body_spans : Spans names pathbody BodyIn
   unfolding BodyIn IsInOrder
   body_spans =
-      either_span names (made_spans BodyIn (anywhere names angled_rises) (λ from upto v up h. h))
-      (either_span names
+      either_span (made_spans BodyIn (anywhere angled_rises) (λ from upto v up h. h))
+      (either_span
       (made_spans BodyIn
-      (both_span (anywhere names (rises_perhaps count_rises)) (both_span (name_spans names) (both_span (anywhere names angled_rises) (perhaps_span names (behind_span names name_wide rises_one (name_spans names))))))
+      (both_span (anywhere (rises_perhaps count_rises)) (both_span (name_spans) (both_span (anywhere angled_rises) (perhaps_span (behind_span name_wide rises_one (name_spans))))))
       (λ from upto v up h.
       let inner = h.second in
       let late = inner.second in
       (inner.mid, name_wider names from h.mid inner.mid inner.mid v.1.0 h.low (omega arith) inner.first,
       if_wider names inner.mid late.mid upto upto v.1.1.1 late.low (omega arith) (if_name late.mid upto v.1.1.1 late.second))))
-      (either_span names
-      (made_spans BodyIn (both_span (behind_span names name_wide rises_one (name_spans names)) (anywhere names angled_rises)) (λ from upto v up h. name_wider names from from h.mid upto v.0 (omega arith) h.high h.first))
-      (made_spans BodyIn (both_span (behind_span names name_wide rises_one (name_spans names)) (anywhere names (rises_each labels_rise))) (λ from upto v up h. name_wider names from from h.mid upto v.0 (omega arith) h.high h.first))))
+      (either_span
+      (made_spans BodyIn (both_span (behind_span name_wide rises_one (name_spans)) (anywhere angled_rises)) (λ from upto v up h. name_wider names from from h.mid upto v.0 (omega arith) h.high h.first))
+      (made_spans BodyIn (both_span (behind_span name_wide rises_one (name_spans)) (anywhere (rises_each labels_rise))) (λ from upto v up h. name_wider names from from h.mid upto v.0 (omega arith) h.high h.first))))
 
   path_spans : Spans names path Order
   unfolding BodyIn IsInOrder
   path_spans =
-      made_spans Order (before_span names body_wide (before_span names body_wide (before_span names body_wide (behind_span names body_wide rises_one (behind_span names body_wide rises_one body_spans)) rises_one) rises_one) rises_one)
+      made_spans Order (before_span body_wide (before_span body_wide (before_span body_wide (behind_span body_wide rises_one (behind_span body_wide rises_one body_spans)) rises_one) rises_one) rises_one)
       (λ from upto v up h. h)
 
   -- nodes and links in turn
-  turns : {A : Type 0} {P : ℕ → A → ℕ → Type 0} (from upto : ℕ) (pairs : List (A × A)) → InTurn names (InTwo names P P) from pairs upto → InTurn names P from (in_turn pairs) upto
-  turns from upto [] h = h
-  turns from upto (pair ∷ pairs) h = (h.1.mid, h.1.first, (h.0, h.1.second, turns h.0 upto pairs h.2))
+  turns : {A : Type 0} (P : ℕ → A → ℕ → Type 0) (from upto : ℕ) (pairs : List (A × A)) → InTurn (InTwo P P) from pairs upto → InTurn P from (in_turn pairs) upto
+  turns P from upto [] h = h
+  turns P from upto (pair ∷ pairs) h = (h.1.mid, h.1.first, (h.0, h.1.second, turns P h.0 upto pairs h.2))
 
-  linked_span : {A : Type 0} {N L : Lang A} {P : ℕ → A → ℕ → Type 0} → Spans names N P → Spans names L P → Spans names (linked N L) (InTurn names P)
-  linked_span {P = P} n l = made_spans (InTurn names P) (both_span n (each_span names (both_span l n))) (λ from upto v up h. (h.mid, h.first, turns h.mid upto v.1 h.second))
+  linked_span : {A : Type 0} {N L : Lang A} {P : ℕ → A → ℕ → Type 0} → Spans names N P → Spans names L P → Spans names (linked N L) (InTurn P)
+  linked_span {P = P} n l = made_spans (InTurn P) (both_span n (each_span (both_span l n))) (λ from upto v up h. (h.mid, h.first, turns P h.mid upto v.1 h.second))
 
-  chain_spans : Spans names chain (InTurn names Order)
-  chain_spans = linked_span node_spans (either_span names edge_spans path_spans)
+  chain_spans : Spans names chain (InTurn Order)
+  chain_spans = linked_span node_spans (either_span edge_spans path_spans)
 
   vchain_rises : Rises vchain
-  vchain_rises = rising names (linked_span node_spans edge_spans)
+  vchain_rises = rising (linked_span node_spans edge_spans)
 
   located_spans : Spans names located Order
   unfolding IsInOrder
-  located_spans = made_spans Order (both_span chain_spans (anywhere names (rises_perhaps (rises_pair rises_one name_rises)))) (λ from upto v up h. (h.mid, row_order from h.mid v.0 h.first, h.high))
+  located_spans = made_spans Order (both_span chain_spans (anywhere (rises_perhaps (rises_pair rises_one name_rises)))) (λ from upto v up h. (h.mid, row_order from h.mid v.0 h.first, h.high))
 
   -- the productions, where what stands in their brackets goes on among the tokens and stands in order
   module _ (inside : Inside) (deeper : Rises inside.expr) (queries : Spans names inside.query Order) where
@@ -240,7 +240,7 @@ module _ (names : Names) where
         (rises_either (rises_made rises_one)
         (rises_either (rises_made name_rises)
         (rises_either (parentheses_rise deeper)
-        (rises_either (rises_made (call_rises rises_one (rises_numbered (rising names queries))))
+        (rises_either (rises_made (call_rises rises_one (rises_numbered (rising queries))))
         (rises_either (indexed_rises _ _)
         (rises_either (indexed_rises _ _)
         (rises_either (rises_made (call_rises rises_one name_rises))
@@ -306,7 +306,7 @@ module _ (names : Names) where
     unfolding NewIn
     new_spans =
         made_spans NewIn
-        (both_span (perhaps_span names (name_spans names)) (anywhere names (rises_both (rises_perhaps (rises_pair rises_one name_rises)) (rises_both (rises_perhaps group_rises) (rises_both (rises_each label_rise) assigns_rise)))))
+        (both_span (perhaps_span (name_spans)) (anywhere (rises_both (rises_perhaps (rises_pair rises_one name_rises)) (rises_both (rises_perhaps group_rises) (rises_both (rises_each label_rise) assigns_rise)))))
         (λ from upto v up h. if_wider names from from h.mid upto v.0 (omega arith) h.high (if_name from h.mid v.0 h.first))
 
     new_placed : (from upto : ℕ) (e : construct.Unplaced) → NewIn (from + 1) e upto → Order from (construct.placed from e) upto
@@ -315,7 +315,7 @@ module _ (names : Names) where
 
     new_node_spans : Spans names (cnode inside) Order
     unfolding IsInOrder
-    new_node_spans = made_spans Order (before_span names next_wide (next_span names new_spans) rises_one) (λ from upto e up h. new_placed from upto e h)
+    new_node_spans = made_spans Order (before_span next_wide (next_span new_spans) rises_one) (λ from upto e up h. new_placed from upto e h)
       where
         next_wide : Wide (λ from (e : construct.Unplaced) upto. NewIn (from + 1) e upto)
         next_wide = record { wider = λ low from upto high e l h n. new_wide.wider (low + 1) (from + 1) upto high e (omega (arith, l)) h n }
@@ -329,12 +329,12 @@ module _ (names : Names) where
 
     projected_spans : Spans names projected Order
     unfolding IsInOrder
-    projected_spans = made_spans Order (anywhere names (slashes_rise name_rises)) (λ from upto v up h. up)
+    projected_spans = made_spans Order (anywhere (slashes_rise name_rises)) (λ from upto v up h. up)
 
     StoredIn : {B : Type 0} → ℕ → Named × B → ℕ → Type 0
     StoredIn from v upto = Name from v.0 upto
 
-    stored_wide : {B : Type 0} → Wide (StoredIn {B})
+    stored_wide : {B : Type 0} → Wide (StoredIn {B = B})
     unfolding StoredIn
     stored_wide = record { wider = λ low from upto high v l h n. name_wider names low from upto high v.0 l h n }
 
@@ -342,15 +342,15 @@ module _ (names : Names) where
     unfolding StoredIn IsInOrder
     stored_spans =
         made_spans Order
-        (before_span names stored_wide (before_span names stored_wide (before_span names stored_wide (behind_span names stored_wide rises_one (behind_span names stored_wide rises_one
-        (made_stored (both_span (behind_span names name_wide rises_one (name_spans names)) (anywhere names (rises_both (rises_each label_rise) assigns_rise)))))) rises_one) rises_one) rises_one)
+        (before_span stored_wide (before_span stored_wide (before_span stored_wide (behind_span stored_wide rises_one (behind_span stored_wide rises_one
+        (made_stored (both_span (behind_span name_wide rises_one (name_spans)) (anywhere (rises_both (rises_each label_rise) assigns_rise)))))) rises_one) rises_one) rises_one)
         (λ from upto v up h. h)
       where
-        made_stored : {B : Type 0} {L : Lang (Named × B)} → Spans names L (InTwo names Name Anywhere) → Spans names L StoredIn
-        made_stored l = record { up = l.up; spans = λ p q ts v s h. let two = l.spans p q ts v s h in name_wider names p.token two.mid two.mid q.token v.0 (omega arith) two.high two.first }
+        made_stored : {B : Type 0} {L : Lang (Named × B)} → Spans names L (InTwo Name Anywhere) → Spans names L StoredIn
+        made_stored l = record { up = l.up; spans = λ p q ts v s h. let two = l.spans p q ts v s h in name_wider names p.token p.token two.mid q.token v.0 (omega arith) two.high two.first }
 
     new_link_spans : Spans names (clink inside) Order
-    new_link_spans = either_span names new_edge_spans (either_span names projected_spans stored_spans)
+    new_link_spans = either_span new_edge_spans (either_span projected_spans stored_spans)
 
     sub_rises : Rises (sub inside)
     sub_rises =
@@ -361,9 +361,9 @@ module _ (names : Names) where
     item_spans : Spans names (item inside) Order
     unfolding IsInOrder
     item_spans =
-        either_span names (made_spans Order (anywhere names name_rises) (λ from upto v up h. up))
+        either_span (made_spans Order (anywhere name_rises) (λ from upto v up h. up))
         (made_spans Order
-        (both_span (linked_span new_node_spans new_link_spans) (anywhere names (rises_both (rises_each sub_rises) (rises_perhaps (rises_pair rises_one formula_rises)))))
+        (both_span (linked_span new_node_spans new_link_spans) (anywhere (rises_both (rises_each sub_rises) (rises_perhaps (rises_pair rises_one formula_rises)))))
         (λ from upto v up h. (h.mid, row_order from h.mid v.0 h.first, h.high)))
 
     where_rises : Rises (where_ inside)
@@ -371,17 +371,17 @@ module _ (names : Names) where
 
     block_spans : Spans names (block inside) Order
     unfolding IsInOrder
-    block_spans = made_spans Order (both_span (parted_span names order_wide rises_one located_spans) (anywhere names where_rises)) (λ from upto v up h. (h.mid, row_order from h.mid v.0 h.first, h.high))
+    block_spans = made_spans Order (both_span (parted_span order_wide rises_one located_spans) (anywhere where_rises)) (λ from upto v up h. (h.mid, row_order from h.mid v.0 h.first, h.high))
 
     optional_spans : Spans names (optional_block inside) Order
     unfolding IsInOrder
-    optional_spans = made_spans Order (behind_span names order_wide rises_one block_spans) (λ from upto v up h. h)
+    optional_spans = made_spans Order (behind_span order_wide rises_one block_spans) (λ from upto v up h. h)
 
     basic_spans : Spans names (basic inside) Order
     unfolding IsInOrder
     basic_spans =
         made_spans Order
-        (both_span (behind_span names (turn_wide order_wide) rises_one (parted_span names order_wide rises_one item_spans)) (both_span (behind_span names order_wide rises_one block_spans) (each_span names optional_spans)))
+        (both_span (behind_span (turn_wide order_wide) rises_one (parted_span order_wide rises_one item_spans)) (both_span (behind_span order_wide rises_one block_spans) (each_span optional_spans)))
         (λ from upto v up h. (h.mid, h.second.mid, row_order from h.mid v.0 h.first, h.second.first, row_order h.second.mid upto v.1.1 h.second.second))
 
     -- a query as a term, and a term as a query
@@ -403,9 +403,9 @@ module _ (names : Names) where
     term_spans : Spans names (term inside) Order
     unfolding IsInOrder
     term_spans =
-        either_span names (made_spans Order basic_spans (λ from upto v up h. h))
-        (either_span names (made_spans Order (anywhere names name_rises) (λ from upto v up h. up))
-        (made_spans Order (before_span names order_wide (behind_span names order_wide rises_one queries) rises_one) (λ from upto v up h. as_term_order from upto v h)))
+        either_span (made_spans Order basic_spans (λ from upto v up h. h))
+        (either_span (made_spans Order (anywhere name_rises) (λ from upto v up h. up))
+        (made_spans Order (before_span order_wide (behind_span order_wide rises_one queries) rises_one) (λ from upto v up h. as_term_order from upto v h)))
 
     NamedIn : ℕ → Named × Tree AQuery → ℕ → Type 0
     NamedIn from v upto = Order from v.1 upto
@@ -416,9 +416,9 @@ module _ (names : Names) where
 
     named_spans : Spans names (named_query inside) NamedIn
     unfolding NamedIn
-    named_spans = in_two (both_span (anywhere names name_rises) (behind_span names order_wide rises_one (before_span names order_wide (behind_span names order_wide rises_one queries) rises_one)))
+    named_spans = in_two (both_span (anywhere name_rises) (behind_span order_wide rises_one (before_span order_wide (behind_span order_wide rises_one queries) rises_one)))
       where
-        in_two : Spans names (named_query inside) (InTwo names Anywhere Order) → Spans names (named_query inside) NamedIn
+        in_two : Spans names (named_query inside) (InTwo Anywhere Order) → Spans names (named_query inside) NamedIn
         in_two l = record { up = l.up; spans = λ p q ts v s h. let two = l.spans p q ts v s h in order_wider names p.token two.mid q.token q.token v.1 two.low (omega arith) two.second }
 
     path_head_rises : Rises (path_head inside)
@@ -428,8 +428,8 @@ module _ (names : Names) where
     head_spans : Spans names (head inside) Order
     unfolding NamedIn IsInOrder
     head_spans =
-        either_span names (record { up = path_head_rises.rises; spans = λ p q ts t s h. path_order p.token q.token t (path_head_rises.rises p q ts t s) s })
-        (made_spans Order (behind_span names named_wide rises_one named_spans) (λ from upto v up h. h))
+        either_span (record { up = path_head_rises.rises; spans = λ p q ts t s h. path_order p.token q.token t (path_head_rises.rises p q ts t s) s })
+        (made_spans Order (behind_span named_wide rises_one named_spans) (λ from upto v up h. h))
       where
         path_order : (from upto : ℕ) (t : Tree AHead) → from ≤ upto → {p q : Point} {ts : List Token} → path_head inside p ts t q → Order from t upto
         path_order from upto t up s = subst (λ x. Order from x upto) (sym s.made) up
@@ -437,20 +437,20 @@ module _ (names : Names) where
     next_spans : Spans names (next_term inside) Order
     unfolding IsInOrder
     next_spans =
-        made_spans Order (both_span (anywhere names (rises_either word_rises (rises_either word_rises word_rises))) term_spans) (λ from upto v up h. order_wider names from h.mid upto upto v.1 h.low (omega arith) h.second)
+        made_spans Order (both_span (anywhere (rises_either word_rises (rises_either word_rises word_rises))) term_spans) (λ from upto v up h. order_wider names from h.mid upto upto v.1 h.low (omega arith) h.second)
 
     pub query_spans : Spans names (query inside) Order
     query_spans =
-        made_spans Order (both_span (each_span names head_spans) (both_span term_spans (each_span names next_spans)))
+        made_spans Order (both_span (each_span head_spans) (both_span term_spans (each_span next_spans)))
         (λ from upto v up h. as_query_order from h.mid h.second.mid upto v.0 v.1.0 v.1.1 (row_order from h.mid v.0 h.first) h.second.first (row_order h.second.mid upto v.1.1 h.second.second))
 
     statement_spans : Spans names (statement inside) Order
     unfolding NamedIn IsInOrder
     statement_spans =
-        either_span names (made_spans Order (behind_span names named_wide rises_one (behind_span names named_wide rises_one named_spans)) (λ from upto v up h. h)) (made_spans Order query_spans (λ from upto v up h. h))
+        either_span (made_spans Order (behind_span named_wide rises_one (behind_span named_wide rises_one named_spans)) (λ from upto v up h. h)) (made_spans Order query_spans (λ from upto v up h. h))
 
-    pub file_spans : Spans names (file inside) (InTurn names Order)
-    file_spans = before_span names (turn_wide order_wide) (parted_span names order_wide rises_one statement_spans) (rises_perhaps rises_one)
+    pub file_spans : Spans names (file inside) (InTurn Order)
+    file_spans = before_span (turn_wide order_wide) (parted_span order_wide rises_one statement_spans) (rises_perhaps rises_one)
 
   -- the same at each depth of brackets
   within_spans : (depth : ℕ) → Rises (within depth).expr × Spans names (within depth).query Order

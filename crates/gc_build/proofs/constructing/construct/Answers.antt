@@ -1,26 +1,24 @@
-use Rattle.std.proofs.Common.{Option, subst}
+use Rattle.std.proofs.Common.{sym, subst}
+use Rattle.gc_sets.specs.Agreed.{AreOfOneGraph}
 use Rattle.gc_build.specs.Claimed.{seen}
 use Rattle.gc_build.proofs.ClaimOrigins.{built_comes}
-use Rattle.gc_build.proofs.Outcomes.{built, refused, unfit}
+use Rattle.gc_build.proofs.ClaimsWhole.{claims_whole}
+use Rattle.gc_build.proofs.Outcomes.{built, refused}
 use Rattle.gc_build.proofs.constructing.construct.Goals as goal
-use Rattle.gc_sets.specs.Claims.{IsOutcome}
-use Rattle.gc_spec.specs.PropertyGraph.{PropertyGraph}
 
-pub returns-in-None-clause-made : goal.returns-in-None-clause-made
-returns-in-None-clause-made g c =
-    unfit c.args.setting.now c.args.recipe.now (record { block = _; segments = _ }) c.args.next (seen c.in_ok-told.told.claims) c.in_ok-told.told.after c.in_ok-told.ensures.claimed
-    (subst (λ (o : Option PropertyGraph). IsOutcome (seen c.in_ok-told.told.claims) o) c.in-None.is c.in_ok-unite.ensures)
+pub unite_agreed-requires : goal.unite_agreed-requires
+unite_agreed-requires g c =
+    let due = c.in_ok-told.ensures.claimed.due in
+    subst AreOfOneGraph (sym due.are) (claims_whole c.args.setting.now c.args.recipe.now (record { block = _; segments = _ }) c.args.next c.requires.whole c.requires.segments due.parts due.exact)
 
-pub returns-in-Some-clause-made : goal.returns-in-Some-clause-made
-returns-in-Some-clause-made g c =
-    built c.args.setting.now c.args.recipe.now (record { block = _; segments = _ }) c.args.next (seen c.in_ok-told.told.claims) c.in_ok-told.told.after c.in_ok-told.ensures.claimed
-    c.in-Some.graph (subst (λ (o : Option PropertyGraph). IsOutcome (seen c.in_ok-told.told.claims) o) c.in-Some.is c.in_ok-unite.ensures)
+pub returns-clause-made : goal.returns-clause-made
+returns-clause-made g c =
+    built c.args.setting.now c.args.recipe.now (record { block = _; segments = _ }) c.args.next (seen c.in_ok-told.told.claims) c.in_ok-told.told.after c.in_ok-told.ensures.claimed c.in_ok-graph.graph c.in_ok-graph.ensures
 
-pub returns-in-Some-clause-comes : goal.returns-in-Some-clause-comes
-returns-in-Some-clause-comes g c =
-    λ fits. built_comes c.args.setting.now c.args.recipe.now (record { block = _; segments = _ }) c.args.next (record { graph = c.in-Some.graph; next = c.in_ok-told.told.after }) fits
-    (built c.args.setting.now c.args.recipe.now (record { block = _; segments = _ }) c.args.next (seen c.in_ok-told.told.claims) c.in_ok-told.told.after c.in_ok-told.ensures.claimed
-    c.in-Some.graph (subst (λ (o : Option PropertyGraph). IsOutcome (seen c.in_ok-told.told.claims) o) c.in-Some.is c.in_ok-unite.ensures))
+pub returns-clause-comes : goal.returns-clause-comes
+returns-clause-comes g c =
+    built_comes c.args.setting.now c.args.recipe.now (record { block = _; segments = _ }) c.args.next (record { graph = c.in_ok-graph.graph; next = c.in_ok-told.told.after }) c.requires.whole.fits
+    (built c.args.setting.now c.args.recipe.now (record { block = _; segments = _ }) c.args.next (seen c.in_ok-told.told.claims) c.in_ok-told.told.after c.in_ok-told.ensures.claimed c.in_ok-graph.graph c.in_ok-graph.ensures)
 
 pub returns-in_err-told-clause-made : goal.returns-in_err-told-clause-made
 returns-in_err-told-clause-made g c =

@@ -21,11 +21,11 @@ recipe_is : (s : Scope) (names : Names) (basic : Basic) (tree : Tree ABlock) (r 
 recipe_is s names basic tree r schema bound found h e f =
     h ∙ (ap (λ (xs : List Sym). recipe_of s bound xs (basic_tree names basic)) f ∙ ap (λ (xs : List Sym). recipe_of s xs (found_variables tree) (basic_tree names basic)) e)
 
-pub construct_whole-outcome-requires-clause-searchable : goal.construct_whole-outcome-requires-clause-searchable
-construct_whole-outcome-requires-clause-searchable g c = all_searched _ (ap are_searched c.requires.block ∙ c.requires.built.searched)
+pub construct-outcome-requires-clause-searchable : goal.construct-outcome-requires-clause-searchable
+construct-outcome-requires-clause-searchable g c = all_searched _ (ap are_searched c.requires.block ∙ c.requires.built.searched)
 
-pub construct_whole-outcome-requires-clause-whole : goal.construct_whole-outcome-requires-clause-whole
-construct_whole-outcome-requires-clause-whole g c =
+pub construct-outcome-requires-clause-whole : goal.construct-outcome-requires-clause-whole
+construct-outcome-requires-clause-whole g c =
     let s : Scope = scope_in c.args.session.now in
     let names : Names = names_in c.args.session.now in
     let tree = block_tree c.args.matched.now.block.now in
@@ -37,7 +37,7 @@ construct_whole-outcome-requires-clause-whole g c =
 
 pub returns-clause-rises : goal.returns-clause-rises
 returns-clause-rises g c =
-    subst (Rises c.args.next) (sym c.made_of.ensures) (rises _ _ _ c.args.next (out-Basic c.args.basic.now).token c.construct_whole-outcome.result c.construct_whole-outcome.ensures.made)
+    subst (Rises c.args.next) (sym c.made_of.ensures) (rises _ _ _ c.args.next (out-Basic c.args.basic.now).token c.construct-outcome.result c.construct-outcome.ensures.made)
 
 pub returns-clause-due : goal.returns-clause-due
 returns-clause-due g c =
@@ -48,8 +48,8 @@ returns-clause-due g c =
     c.args.matched.now.segments.now c.args.matched.now.table.now c.in_ok-recipe.recipe
     (recipe_is s names c.args.basic.now tree c.in_ok-recipe.recipe c.args.matched.now.table.now.schema c.as_slice-bound.result.now c.as_slice.result.now c.in_ok-recipe.ensures
     (c.as_slice-bound.ensures ∙ c.schema.ensures) (c.as_slice.ensures ∙ c.in_ok-found.ensures))
-    c.construct_whole-outcome.result c.construct_whole-outcome.ensures.made c.made_of.result c.made_of.ensures
+    c.construct-outcome.result c.construct-outcome.ensures.made c.made_of.result c.made_of.ensures
 
 pub returns-clause-comes : goal.returns-clause-comes
 returns-clause-comes g c =
-    subst (ComesOf c.args.graphs.now c.args.next) (sym c.made_of.ensures) (comes_of c.args.graphs.now c.args.next (out-Basic c.args.basic.now).token c.construct_whole-outcome.result c.construct_whole-outcome.ensures.comes)
+    subst (ComesOf c.args.graphs.now c.args.next) (sym c.made_of.ensures) (comes_of c.args.graphs.now c.args.next (out-Basic c.args.basic.now).token c.construct-outcome.result c.construct-outcome.ensures.comes)
