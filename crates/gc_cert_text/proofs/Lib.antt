@@ -9,6 +9,7 @@ mod Keys
 pub mod LineFeeds
 mod NestedTokens
 mod Searches
+mod SpelledNesting
 mod ToldItems
 mod WritableSegments
 mod WrittenExact

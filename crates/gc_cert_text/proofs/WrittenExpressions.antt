@@ -46,4 +46,4 @@ text_back tree is small shallow =
 pub tree_back : (s : SearchTold) → IsWritable s → tree_in (search_data s) ≡ Some s.expression
 tree_back s h =
     let small : is_small s.expression ≡ true = grind (arith, nat_tests, h.formed.few) in
-    text_back s.expression h.formed.expression small h.shallow
+    text_back s.expression h.formed.expression small h.formed.shallow

@@ -10,11 +10,9 @@ use Rattle.gc_json.specs.CanonicalText.{element_count}
 use Rattle.gc_prod.specs.declared.moves.By.{By}
 use Rattle.gc_prod.specs.declared.moves.By.TheVariants as by
 use Rattle.gc_prod.specs.declared.moves.RunMove.{RunMove}
-use Rattle.gc_regx.specs.Trees.{ARegex}
 use Rattle.gc_spec.specs.PropertyGraph.{IsGraph, IsId}
 use Rattle.gc_cert_text.specs.Certificates.{SearchTold}
 use Rattle.gc_cert_text.specs.FormedSearches.{IsFormedSearch}
-use Rattle.gc_cert_text.specs.Nesting.{nesting_of}
 use Rattle.gc_cert_text.specs.SegmentsOfGraphs.{is_name}
 
 -- states and the numbers of segments have 32 bits, and costs are below 2^127
@@ -51,11 +49,9 @@ pub record IsWritableSegment (s : Segment) : Type 0 where
   pub view : is_name s.view ≡ true
   pub cost : s.cost ≤ 9223372036854775807
 
--- a search is formed, its graph is one of at most 1,000,000 elements, its expression nests at most 64 deep, and all
--- numbers are in range
+-- a search is formed, its graph is a valid one of at most 1,000,000 elements, and all numbers are in range
 pub record IsWritable (s : SearchTold) : Type 0 where
   pub formed : IsFormedSearch s
-  pub shallow : nesting_of {k = ARegex} s.expression ≤ 64
   pub graph : IsGraph s.graph
   pub few : element_count s.graph ≤ 1000000
   pub potentials : AllByRecursion IsWritablePotential s.potentials

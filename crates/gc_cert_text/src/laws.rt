@@ -7,8 +7,8 @@ ghost use Rattle.gc_cert_text.specs.WritableSearches.{IsWritable};
 
 use gc_json::canonical_texts_load_back;
 
-/// Of what a certificate tells, each expression is one that the grammar gives, of at most 1,024 states, and
-/// the segments of each search are walks of its graph.
+/// Of what a certificate tells, each expression is one that the grammar gives, of at most 1,024 states and with
+/// parentheses in its text at most 64 deep, and the segments of each search are walks of its graph.
 pub fn certificates_are_formed()
     ensures { (bytes : List ℕ) (searches : List SearchTold) → certificate_of bytes ≡ Ok searches → AllByRecursion IsFormedSearch searches }
 {}
