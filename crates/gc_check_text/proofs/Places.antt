@@ -2,7 +2,7 @@
 use Rattle.std.proofs.Common.{◌≡◌, ℕ, zero, suc, ◌+◌, ◌≤◌, List, [], ◌∷◌, length, map, take, Some, slice_get, sym, subst, arith}
 use Rattle.std.specs.List.{AllByRecursion}
 
-same : {X : Type 0} (x y : X) → Some x ≡ Some y → x ≡ y
+pub same : {X : Type 0} (x y : X) → Some x ≡ Some y → x ≡ y
 same x y h = cc
 
 module _ {X : Type 0} (P : X → Type 0) where

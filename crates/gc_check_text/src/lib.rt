@@ -4,8 +4,10 @@
 #![tactic(auto)]
 
 mod checking;
+mod laws;
 mod refusal;
 mod searches;
 
 pub use checking::check;
+pub use laws::outcomes_are_exact;
 pub use refusal::CheckRefusal;
