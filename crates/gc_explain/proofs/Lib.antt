@@ -1,1 +1,3 @@
 pub mod Planned
+mod StepsMean
+mod Turns

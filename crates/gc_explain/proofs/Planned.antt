@@ -1,12 +1,11 @@
 -- What is left of numbers, of conditions and of atoms.
-use Rattle.std.proofs.Common.{◌≡◌, ℕ, zero, suc, ◌+◌, ◌-◌, ◌<◌, false, nat_lt, List, [], ◌∷◌, ◌++◌, append_assoc, filter, length, map, Option, None, Some, refl, sym, ap, ◌∙◌, subst, arith, slice_get}
+use Rattle.std.proofs.Common.{◌≡◌, ℕ, zero, suc, ◌+◌, ◌-◌, ◌<◌, false, nat_lt, List, [], ◌∷◌, ◌++◌, append_assoc, filter, length, map, None, Some, refl, sym, ap, ◌∙◌, subst, arith, slice_get}
 use Rattle.std.proofs.lemmas.Bool.Decides.{nat_tests}
 use Rattle.std.proofs.lemmas.List.{length-map}
 use Rattle.std.specs.List.{range_with_len}
 use Rattle.gc_base.specs.declared.place.Sym.{Sym}
 use Rattle.gc_alg.proofs.Items.{conjuncts_are, items_row}
 use Rattle.gc_alg.proofs.Layers.{conjunct_is}
-use Rattle.gc_alg.specs.Trees.{items, conjuncts_of}
 use Rattle.gc_alg.specs.Views.{conjunct_tree, exists_tree, part_tree}
 use Rattle.gc_alg.specs.declared.block.Conjunct.{Conjunct, out-Conjunct}
 use Rattle.gc_alg.specs.declared.block.Part.{Part, out-Part}

@@ -1,5 +1,5 @@
 -- How an atom may come where variables are bound, if it may.
-use Rattle.std.specs.Prelude.{ℕ, Bool, true, false, List, [], ◌∷◌, Option, Some, None, if◌then◌else◌}
+use Rattle.std.specs.Prelude.{ℕ, List, [], ◌∷◌, Option, Some, None, if◌then◌else◌}
 use Rattle.std.specs.List.{list_all, list_any}
 use Rattle.gc_base.specs.declared.place.Sym.{Sym}
 use Rattle.gc_rows.specs.Rows.{lists}

@@ -1,4 +1,5 @@
 pub mod ExplainedPlans
+pub mod ExplainedTrees
 pub mod ExplainedWords
 pub mod Needs
 pub mod PlanLines

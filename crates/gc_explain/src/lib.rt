@@ -5,12 +5,14 @@
 #![tactic(auto)]
 
 mod choosing;
+mod laws;
 mod needing;
 mod planning;
 mod step;
 mod text;
 mod wording;
 
+pub use laws::explained_steps_mean_their_block;
 pub use needing::needs_of;
 pub use planning::plan_steps;
 pub use step::{Step, StepWord};
