@@ -11,13 +11,6 @@ use Rattle.gc_lower.specs.Scopes.{Scope, variable_of, variable_or}
 use Rattle.gc_build_reading.specs.declared.place.Ends.{Ends}
 use Rattle.gc_build_reading.specs.declared.place.Place.{Place}
 
--- places and ends, as definitions over those of items name them
-abbrev pub APlace : Type 0
-APlace = Place
-
-abbrev pub EdgeEnds : Type 0
-EdgeEnds = Ends
-
 -- Take `(x)<-[y]-(), (x)-/p/->(x)`: the places are x, y from the unnamed node to x, the unnamed node, and x two times more.
 
 -- the variable of a node or an edge: that of its name, or the hidden one at its token

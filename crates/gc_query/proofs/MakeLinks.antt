@@ -26,8 +26,6 @@ use Rattle.gc_build_reading.specs.Items.{chain_of, item_chains, part_variables}
 use Rattle.gc_build_reading.specs.Places.{chain_places, edge_place, edge_places, ends_of, item_places, node_place, path_place, places_of}
 use Rattle.gc_build_reading.specs.Recipes.{makings_of, recipe_by}
 use Rattle.gc_build_reading.specs.Variables.{Makings, all_terms, bound_grouping, first_places, grouping_of, is_of, new_grouping, of_kind, variable_at, variables_at, with_first}
-use Rattle.gc_build_reading.specs.Places.{EdgeEnds as Ends}
-use Rattle.gc_build_reading.specs.Places.{APlace as Place}
 use Rattle.gc_build_recipe.specs.Recipes.{Chain, Recipe}
 use Rattle.gc_build_recipe.specs.declared.variable.Grouping.{Grouping}
 use Rattle.gc_build_recipe.specs.declared.variable.Grouping.TheVariants as by
@@ -48,7 +46,7 @@ use Rattle.gc_sorts.specs.declared.sort.Sort.TheVariants as sort
 use Rattle.gc_sorts.specs.declared.sort.Role.{Role}
 use Rattle.gc_sorts.specs.declared.sort.Role.TheVariants as role
 use Rattle.gc_lower.specs.Scopes.{Scope, variable_of, variable_or}
-use Rattle.gc_query.proofs.MakeSites.{EdgeSite, IsElement, IsPart, IsPlaceOf, IsSite, Site, a_node, a_stored, an_edge, chain_part, chain_sites, edge_places_are, is_edge, is_node, item_sites, node_listed, node_placed, nodes_of, of_site, of_stored, place_of_items, site_is, site_variable, sites_of}
+use Rattle.gc_query.proofs.MakeSites.{Ends, Place, EdgeSite, IsElement, IsPart, IsPlaceOf, IsSite, Site, a_node, a_stored, an_edge, chain_part, chain_sites, edge_places_are, is_edge, is_node, item_sites, node_listed, node_placed, nodes_of, of_site, of_stored, place_of_items, site_is, site_variable, sites_of}
 use Rattle.gc_query.proofs.MakeSorts.{SiteFits, StoredFits, first_matched, kind_role, not_stored, site_role}
 use Rattle.gc_query.proofs.MatchLinks.{IsEdgePattern, IsPathName, there_used, use_there}
 use Rattle.gc_query.proofs.MatchParts.{AreApart, MatchLink}

@@ -14,8 +14,7 @@ use Rattle.gc_ast.specs.Trees.{Tree, Named, RowOf, AnItem, AConstructPart, ANewE
 use Rattle.gc_build.proofs.ClaimEnds.{any_member, member_any}
 use Rattle.gc_build_reading.specs.Items.{part_variables}
 use Rattle.gc_build_reading.specs.Places.{chain_places, edge_place, edge_places, element_variable, ends_of, item_places, next_variable, node_place, node_variable, part_places, path_place, places_of}
-use Rattle.gc_build_reading.specs.Places.{EdgeEnds as Ends}
-use Rattle.gc_build_reading.specs.Places.{APlace as Place}
+use Rattle.gc_build_reading.specs.Variables.{first_places}
 use Rattle.gc_ppg.specs.declared.shape.Kind.{Kind}
 use Rattle.gc_ppg.specs.declared.shape.Kind.TheVariants as kind
 use Rattle.gc_rows.proofs.Members.{cons_cases, contains_here, contains_later}
@@ -30,6 +29,19 @@ use Rattle.gc_sorts.specs.declared.sort.Role.TheVariants as role
 use Rattle.gc_lower.specs.Scopes.{Scope, variable_of, variable_or}
 use Rattle.gc_query.proofs.MatchPlaces.{hidden, unnamed_token}
 use Rattle.gc_query.proofs.SearchedAtoms.{IsUnbroken}
+
+-- the types of places and of ends, which the crate that reads items keeps to itself: those of what its definitions give
+abbrev TypeOf : {X : Type 0} → X → Type 0
+TypeOf {X} x = X
+
+abbrev ItemOf : {X : Type 0} → List X → Type 0
+ItemOf {X} xs = X
+
+abbrev pub Place : Type 0
+Place = ItemOf (first_places [])
+
+abbrev pub Ends : Type 0
+Ends = TypeOf (ends_of Forward (record { 0 = 0 }) (record { 0 = 0 }))
 
 -- a kind of sites is a node's or an edge's
 pub data IsElement (k : Kind) : Type 0 where

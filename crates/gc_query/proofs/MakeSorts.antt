@@ -12,7 +12,6 @@ use Rattle.gc_base.specs.declared.place.Sym.{Sym}
 use Rattle.gc_ast.specs.Trees as tree
 use Rattle.gc_ast.specs.Trees.{Tree, Named, RowOf, AnItem, AConstructPart, ANewElement}
 use Rattle.gc_build_reading.specs.Places.{node_variable, next_variable}
-use Rattle.gc_build_reading.specs.Places.{APlace as Place}
 use Rattle.gc_ppg.specs.declared.shape.Kind.{Kind}
 use Rattle.gc_ppg.specs.declared.shape.Kind.TheVariants as kind
 use Rattle.gc_rows.proofs.Members.{cons_cases, contains_here, to_flat_map}
@@ -29,7 +28,7 @@ use Rattle.gc_sorts.specs.declared.form.Takes.TheVariants as takes
 use Rattle.gc_sorts.specs.declared.sort.Role.{Role}
 use Rattle.gc_sorts.specs.declared.sort.Role.TheVariants as role
 use Rattle.gc_lower.specs.Scopes.{Scope, variable_of, variable_or}
-use Rattle.gc_query.proofs.MakeSites.{IsElement, IsPlaceOf, IsSite, Site, chain_sites, item_sites, is_edge, is_node, of_site, of_stored, part_sites, site_is, site_variable, sites_of}
+use Rattle.gc_query.proofs.MakeSites.{Place, IsElement, IsPlaceOf, IsSite, Site, chain_sites, item_sites, is_edge, is_node, of_site, of_stored, part_sites, site_is, site_variable, sites_of}
 use Rattle.gc_query.proofs.MatchParts.{AreApart}
 use Rattle.gc_query.proofs.MatchPlaces.{hidden, unnamed_token}
 use Rattle.gc_query.proofs.MatchSorts.{first_there, has_first}
