@@ -130,7 +130,7 @@ module _ (s : Scope) (names : Names) (at : Standing) (basic : Basic) (block : Bl
         let fits : Fits read_in r = record {
           graphs = graphs;
           bound = rows_bind at.graphs segments graphs there B table matched;
-          distinct = subst (λ (q : Recipe). AreDistinct q.variables) (sym same) (recipe_distinct s _ _ tree);
+          distinct = subst (λ (q : Recipe). AreDistinct q.variables) (sym same) (recipe_distinct s table.schema (found_variables B) tree);
         } in
         fits_whole read_in r (patterns B) at.next fits standing there (each_member (IsRowOfBlock (database at.graphs segments) [] B) table.rows matched.sound) links own
 
