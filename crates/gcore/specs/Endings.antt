@@ -4,6 +4,7 @@ use Rattle.std.specs.Option.{ForSome}
 use Rattle.std.specs.Io.KnownBytes.{append_known}
 use Rattle.gc_base.specs.Faults.{Rose}
 use Rattle.gc_base.specs.Files.{Files}
+use Rattle.gc_base.specs.declared.place.MakeKind.{MakeKind}
 use Rattle.gc_base.specs.declared.place.Place.{Place}
 use Rattle.gc_query.specs.declared.fault.Fault.{Fault}
 use Rattle.gc_query.specs.declared.fault.Fault.TheVariants as fault
@@ -11,7 +12,7 @@ use Rattle.gc_spec.specs.PropertyGraph.{PropertyGraph}
 use Rattle.gcore.specs.FaultLines.{IsHeldFault, walk_text}
 use Rattle.gcore.specs.GraphLines.{IsHeld}
 use Rattle.gcore.specs.Lines.{line_of, status_of}
-use Rattle.gcore.specs.Outcomes.{IsAsked, Prints, PrintsFirst, Request, graphs_due, outcome, texts}
+use Rattle.gcore.specs.Outcomes.{IsAsked, Prints, PrintsFirst, Request, graphs_due, make_due, outcome, texts}
 use Rattle.gcore.specs.QueryFiles.{place_at}
 use Rattle.gcore.specs.TextLines.{IsHeldPlace, IsHeldText}
 use Rattle.gcore.specs.declared.command.Command.{Command}
@@ -76,21 +77,25 @@ stop_of_fault places fault.NoGraph = NoGraph
 -- a session ends at a fault, and the texts of what it printed before were written
 abbrev pub EndsAtFault : Request → Change → Stop → Type 0
 EndsAtFault r out stop =
-    (graphs : List PropertyGraph) × (fault : Fault) × Prints r graphs (Some fault) × (stop ≡ stop_of_fault r.query.places fault) × Gains out (texts graphs)
+    (graphs : List PropertyGraph) × (fault : Fault) × Prints r graphs (Some fault) × (stop ≡ stop_of_fault r.query.places fault) × Gains out (texts r.style graphs)
 
 -- the beginning of the texts of what the first statements print was written
 abbrev pub WritesBeginning : Request → Change → Type 0
-WritesBeginning r out = (graphs : List PropertyGraph) × PrintsFirst r graphs × GainsPrefix out (texts graphs)
+WritesBeginning r out = (graphs : List PropertyGraph) × PrintsFirst r graphs × GainsPrefix out (texts r.style graphs)
 
 -- the session of a request was run: the texts of what it prints were written; or it ended at a fault; or the output failed, or memory
 -- was wanting, behind the beginning of these texts
 abbrev pub RunsSession : Request → Change → Result (Unit {0}) Stop → Type 0
-RunsSession r out (Ok done) = (graphs : List PropertyGraph) × Prints r graphs None × Gains out (texts graphs)
+RunsSession r out (Ok done) = (graphs : List PropertyGraph) × Prints r graphs None × Gains out (texts r.style graphs)
 RunsSession r out (Err (Faulted fault)) = EndsAtFault r out (Faulted fault)
 RunsSession r out (Err NoGraph) = EndsAtFault r out NoGraph
 RunsSession r out (Err Unwritten) = Failed out × WritesBeginning r out
 RunsSession r out (Err OutOfMemory) = WritesBeginning r out
 RunsSession r out (Err stop) = ⊥
+
+-- the session about a made graph was run
+abbrev pub RunsMade : MakeKind → (size start : ℕ) → Change → Result (Unit {0}) Stop → Type 0
+RunsMade kind size start out result = (r : Request) × (make_due kind size start ≡ Ok r) × RunsSession r out result
 
 -- the folder's count of faults rose in the call
 abbrev pub ReadFault : Call → Type 0
@@ -141,6 +146,14 @@ IsTurnOfItsQuery told (Explain query pairs) = ⊥
 IsTurnOfItsQuery told (Check document) = ⊥
 IsTurnOfItsQuery told (Make kind size start) = ⊥
 
+-- the turn of the session of a command that runs one comes: with its query file; that of `make` has no file to wait for
+abbrev pub IsTurnOfItsSession : Option Files → Command → Type 0
+IsTurnOfItsSession told (Run query pairs) = IsTurnOfQuery told query pairs query
+IsTurnOfItsSession told (Cert query pairs) = ⊥
+IsTurnOfItsSession told (Explain query pairs) = ⊥
+IsTurnOfItsSession told (Check document) = ⊥
+IsTurnOfItsSession told (Make kind size start) = ⊤
+
 -- the file is one of the command's, and its turn comes
 abbrev pub IsReached : Call → List ℕ → Type 0
 IsReached call file = IsSomeAnd call.command (λ command. IsTurnOf call.files command file)
@@ -153,13 +166,17 @@ IsReachedGraph call file = IsSomeAnd call.command (λ command. IsTurnOfGraph cal
 abbrev pub IsReachedQuery : Call → Type 0
 IsReachedQuery call = IsSomeAnd call.command (λ command. IsTurnOfItsQuery call.files command)
 
+-- the command runs a session, and its turn comes
+abbrev pub IsReachedSession : Call → Type 0
+IsReachedSession call = IsSomeAnd call.command (λ command. IsTurnOfItsSession call.files command)
+
 -- a command that is not built yet
 abbrev pub IsUnbuilt : Command → Type 0
 IsUnbuilt (Run query pairs) = ⊥
 IsUnbuilt (Cert query pairs) = ⊤
 IsUnbuilt (Explain query pairs) = ⊤
 IsUnbuilt (Check document) = ⊤
-IsUnbuilt (Make kind size start) = ⊤
+IsUnbuilt (Make kind size start) = ⊥
 
 -- a file can't be read: where the files are told that is due, or the folder's count rose; else the count rose
 abbrev pub IsUnread : Call → List ℕ → Type 0
@@ -174,8 +191,8 @@ StopsFor call (Refused refusal file) = IsReachedGraph call file × IsDue call (R
 StopsFor call (Text refusal) = IsReachedQuery call × IsDue call (Text refusal) × GainsNothing call.out
 StopsFor call (Sorts rule place) = IsReachedQuery call × IsDue call (Sorts rule place) × GainsNothing call.out
 StopsFor call NotBuilt = IsSomeAnd call.command IsUnbuilt × IsDue call NotBuilt × GainsNothing call.out
-StopsFor call (Faulted fault) = IsReachedQuery call × FaultIsDue call (Faulted fault)
-StopsFor call NoGraph = IsReachedQuery call × FaultIsDue call NoGraph
+StopsFor call (Faulted fault) = IsReachedSession call × FaultIsDue call (Faulted fault)
+StopsFor call NoGraph = IsReachedSession call × FaultIsDue call NoGraph
 StopsFor call Unwritten = IsSome call.command × Failed call.out × GainsDuePrefix call
 StopsFor call OutOfMemory = GainsDuePrefix call
 
@@ -183,7 +200,7 @@ StopsFor call OutOfMemory = GainsDuePrefix call
 abbrev pub Finishes : Call → Type 0
 Finishes call =
     IsSome call.command
-    × IfSome call.files (λ files. (r : Request) × (graphs : List PropertyGraph) × IsAsked (outcome call.command files) r × Prints r graphs None × Gains call.out (texts graphs))
+    × IfSome call.files (λ files. (r : Request) × (graphs : List PropertyGraph) × IsAsked (outcome call.command files) r × Prints r graphs None × Gains call.out (texts r.style graphs))
 
 -- a call finishes, or stops for a cause
 abbrev pub Answers : Call → Result (Unit {0}) Stop → Type 0
@@ -218,6 +235,14 @@ HasQuery (Explain query pairs) = ⊥
 HasQuery (Check document) = ⊥
 HasQuery (Make kind size start) = ⊥
 
+-- a command runs a session
+abbrev pub HasSession : Command → Type 0
+HasSession (Run query pairs) = ⊤
+HasSession (Cert query pairs) = ⊥
+HasSession (Explain query pairs) = ⊥
+HasSession (Check document) = ⊥
+HasSession (Make kind size start) = ⊤
+
 -- where the files are told, the session that is asked for ends at the fault of a stop
 abbrev pub EndsAt : Option Files → Option Command → Stop → Type 0
 EndsAt told command stop =
@@ -231,18 +256,22 @@ MayStop told command (TooLarge file) = Contains (named_files command) file
 MayStop told command (Refused refusal file) = Contains (graph_files command) file × IsHeld refusal
 MayStop told command (Text refusal) = IsSomeAnd command HasQuery × IsHeldText refusal
 MayStop told command (Sorts rule place) = IsSomeAnd command HasQuery × IsHeldPlace place
-MayStop told command (Faulted fault) = IsSomeAnd command HasQuery × IsHeldFault fault × EndsAt told command (Faulted fault)
+MayStop told command (Faulted fault) = IsSomeAnd command HasSession × IsHeldFault fault × EndsAt told command (Faulted fault)
 MayStop told command stop = ⊤
 
 -- a told room holds the texts of whatever first statements print
 abbrev pub HoldsTexts : Option ℕ → Request → Type 0
-HoldsTexts room r = ForSome room (λ most. (graphs : List PropertyGraph) → PrintsFirst r graphs → length (texts graphs) ≤ most)
+HoldsTexts room r = ForSome room (λ most. (graphs : List PropertyGraph) → PrintsFirst r graphs → length (texts r.style graphs) ≤ most)
+
+-- the same of the session about a made graph
+abbrev pub HoldsMade : Option ℕ → MakeKind → (size start : ℕ) → Type 0
+HoldsMade room kind size start = (r : Request) → make_due kind size start ≡ Ok r → HoldsTexts room r
 
 -- the same of the session that is asked for, for which the files have to be told
 abbrev pub HoldsText : Option ℕ → Option Files → Option Command → Type 0
 HoldsText room told command =
     ForSome room (λ most. IsSomeAnd told (λ files. (r : Request) (graphs : List PropertyGraph)
-    → IsAsked (outcome command files) r → PrintsFirst r graphs → length (texts graphs) ≤ most))
+    → IsAsked (outcome command files) r → PrintsFirst r graphs → length (texts r.style graphs) ≤ most))
 
 -- a told room of `err` holds each line that may be due. The line of a bad cost is as long as its walk, so where a command runs a query
 -- and its files are not told, no told room does

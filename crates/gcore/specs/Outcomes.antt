@@ -2,6 +2,7 @@
 use Rattle.std.specs.Prelude.{◌≡◌, ℕ, List, [], ◌∷◌, ◌++◌, fold, length, map, max, nat_lt, if◌then◌else◌, Some, None, Option, Result, Ok, Err}
 use Rattle.std.specs.List.{flat_map}
 use Rattle.gc_base.specs.Files.{Files, file_of}
+use Rattle.gc_base.specs.declared.place.MakeKind.{MakeKind}
 use Rattle.gc_spec.specs.Coherence.{shapes_of}
 use Rattle.gc_spec.specs.PropertyGraph.{PropertyGraph}
 use Rattle.gc_json.specs.CanonicalText.{canonical_text}
@@ -9,11 +10,14 @@ use Rattle.gc_json.specs.FileElements.{Seen}
 use Rattle.gc_json.specs.GraphFiles.{file_graph}
 use Rattle.gc_json.specs.declared.refusal.GraphRefusal.{GraphRefusal}
 use Rattle.gc_lower.specs.Namings.{scope_in}
+use Rattle.gc_make.specs.MadeGraphs.{made}
 use Rattle.gc_ppg.specs.FreeIds.{first_free}
 use Rattle.gc_query.specs.Sessions.{Session, Begins}
 use Rattle.gc_query.specs.Standings.{Standing}
 use Rattle.gc_query.specs.declared.fault.Fault.{Fault}
+use Rattle.gcore.specs.MakeQueries.{made_name, make_query}
 use Rattle.gcore.specs.QueryFiles.{PlacedFile, query_file_of}
+use Rattle.gcore.specs.Summaries.{summary}
 use Rattle.gcore.specs.declared.command.Command.{Command}
 use Rattle.gcore.specs.declared.command.Command.TheVariants.{Run, Cert, Explain, Check, Make}
 use Rattle.gcore.specs.declared.command.CommandRefusal.{CommandRefusal}
@@ -21,6 +25,8 @@ use Rattle.gcore.specs.declared.command.CommandRefusal.TheVariants as refusal
 use Rattle.gcore.specs.declared.pair.Pair.{Pair}
 use Rattle.gcore.specs.declared.stop.Stop.{Stop}
 use Rattle.gcore.specs.declared.stop.Stop.TheVariants.{Usage, Unread, TooLarge, Refused, NotBuilt, OutOfMemory}
+use Rattle.gcore.specs.declared.style.Style.{Style}
+use Rattle.gcore.specs.declared.style.Style.TheVariants.{Text, Summary}
 
 -- how many bytes a graph file may have, and a query file
 abbrev pub graph_limit : ℕ
@@ -65,13 +71,15 @@ query_file_due graphs files name = then_due (file_due files name query_limit) (q
 abbrev pub graph_names : List Pair → List (List ℕ)
 graph_names pairs = map (λ (p : Pair). p.name) pairs
 
--- what a run is asked: the graphs, and the query file
+-- what a session is asked: the graphs, the query file, and how its graphs are written
 pub record Request : Type 0 where
   pub graphs : List PropertyGraph
   pub query : PlacedFile
+  pub style : Style
 
+-- a run writes the graphs as their texts
 abbrev pub request : List PropertyGraph → PlacedFile → Result Request Stop
-request graphs query = Ok (record { graphs = graphs; query = query })
+request graphs query = Ok (record { graphs = graphs; query = query; style = Text })
 
 -- the first identity above all of some graphs, or 0 where they have no element
 abbrev pub free_above : List PropertyGraph → ℕ
@@ -90,17 +98,29 @@ abbrev pub PrintsFirst : Request → List PropertyGraph → Type 0
 PrintsFirst r graphs = Begins (scope_in r.query.file 0) (beginning r.graphs) r.query.file.statements graphs
 
 -- the text of a graph, and a line feed
-unfoldable pub printed : PropertyGraph → List ℕ
-printed g = canonical_text g ++ 10 ∷ []
+unfoldable pub graph_text : PropertyGraph → List ℕ
+graph_text g = canonical_text g ++ 10 ∷ []
 
--- the texts of graphs, one after another
-abbrev pub texts : List PropertyGraph → List ℕ
-texts graphs = flat_map printed graphs
+-- a graph as it is written: its text, or the line that tells of it as an answer
+abbrev pub printed : Style → PropertyGraph → List ℕ
+printed Text g = graph_text g
+printed (Summary nodes edges) g = summary nodes edges g
+
+-- graphs as they are written, one after another
+abbrev pub texts : Style → List PropertyGraph → List ℕ
+texts style graphs = flat_map (printed style) graphs
 
 -- first the graph files, then the query file
 abbrev pub run_due : Files → List ℕ → List Pair → Result Request Stop
 run_due files query pairs =
     then_due (graphs_due files [] pairs) (λ gs. then_due (query_file_due (graph_names pairs) files query) (request gs))
+
+-- the session about a made graph: the graph alone, under its name, the query that is asked of it, and a line that tells of its answer
+abbrev pub make_request : PropertyGraph → PlacedFile → Result Request Stop
+make_request g query = Ok (record { graphs = g ∷ []; query = query; style = Summary (length g.nodes) (length g.edges) })
+
+abbrev pub make_due : MakeKind → (size start : ℕ) → Result Request Stop
+make_due kind size start = then_due (query_file_of (made_name ∷ []) make_query) (make_request (made kind size start))
 
 -- what a command is asked; those that are not built yet stop directly
 abbrev pub command_due : Files → Command → Result Request Stop
@@ -108,7 +128,7 @@ command_due files (Run query pairs) = run_due files query pairs
 command_due files (Cert query pairs) = Err NotBuilt
 command_due files (Explain query pairs) = Err NotBuilt
 command_due files (Check document) = Err NotBuilt
-command_due files (Make kind size start) = Err NotBuilt
+command_due files (Make kind size start) = make_due kind size start
 
 -- words that are no command are a usage fault
 abbrev pub form_due : Option Command → Result Command Stop

@@ -1,7 +1,7 @@
 use Rattle.std.proofs.Common.{ℕ, suc, List, [], ◌∷◌, ◌++◌, map, Some, None, Option, refl, sym, subst, arith, inl, inr}
 use Rattle.std.specs.Prelude.{IfSome, IsSomeAnd, Contains}
 use Rattle.gc_base.specs.Files.{Files}
-use Rattle.gcore.specs.Endings.{Call, Change, EndsAt, EndsAtFault, IsTurnOf, IsTurnOfGraph, IsTurnOfItsQuery, HasQuery, MayStop, StopsFor, graphs_of, graph_files, named_files}
+use Rattle.gcore.specs.Endings.{Call, Change, EndsAt, EndsAtFault, IsTurnOf, IsTurnOfGraph, IsTurnOfItsQuery, IsTurnOfItsSession, HasQuery, HasSession, MayStop, StopsFor, graphs_of, graph_files, named_files}
 use Rattle.gcore.specs.GraphSteps.{IsHeldStop}
 use Rattle.gcore.specs.Outcomes.{IsAsked, Request, outcome}
 use Rattle.gcore.specs.declared.command.Command.{Command}
@@ -49,6 +49,14 @@ has_query (Some (Explain query pairs)) told h = absurd h
 has_query (Some (Check document)) told h = absurd h
 has_query (Some (Make kind size start)) told h = absurd h
 
+has_session : (command : Option Command) (told : Option Files) → IsSomeAnd command (λ c. IsTurnOfItsSession told c) → IsSomeAnd command HasSession
+has_session None told h = absurd h
+has_session (Some (Run query pairs)) told h = tt
+has_session (Some (Cert query pairs)) told h = absurd h
+has_session (Some (Explain query pairs)) told h = absurd h
+has_session (Some (Check document)) told h = absurd h
+has_session (Some (Make kind size start)) told h = tt
+
 -- what is due at a fault
 ends : (told : Option Files) (command : Option Command) (out : Change) (stop : Stop)
     → IfSome told (λ files. (r : Request) × IsAsked (outcome command files) r × EndsAtFault r out stop) → EndsAt told command stop
@@ -63,7 +71,7 @@ may_stop call (Refused refusal file) held h = (is_named_graph call.command call.
 may_stop call (Text refusal) held h = (has_query call.command call.files h.0, held)
 may_stop call (Sorts rule place) held h = (has_query call.command call.files h.0, held)
 may_stop call NotBuilt held h = tt
-may_stop call (Faulted fault) held h = (has_query call.command call.files h.0, held, ends call.files call.command call.out (Faulted fault) h.1)
+may_stop call (Faulted fault) held h = (has_session call.command call.files h.0, held, ends call.files call.command call.out (Faulted fault) h.1)
 may_stop call NoGraph held h = tt
 may_stop call Unwritten held h = tt
 may_stop call OutOfMemory held h = tt
