@@ -3,6 +3,7 @@ pub mod GraphsRead
 pub mod RunLaws
 pub mod MakeQueryRead
 pub mod MakeLaws
+pub mod CheckLaws
 pub mod SummaryLaws
 pub mod QueryFileLaws
 pub mod SortedFiles

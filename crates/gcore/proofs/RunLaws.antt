@@ -6,8 +6,8 @@ use Rattle.gc_base.specs.Faults.{Rose}
 use Rattle.gc_base.specs.Files.{Files}
 use Rattle.std.specs.Io.KnownBytes.{append_known}
 use Rattle.gc_spec.specs.PropertyGraph.{PropertyGraph}
-use Rattle.gcore.specs.Outcomes.{IsAsked, PrintsFirst, Request, graph_names, graphs_due, outcome, query_file_due, request, texts, then_due}
-use Rattle.gcore.specs.Endings.{Answers, Call, Change, GainsDuePrefix, GainsNothing, HoldsText, HoldsTexts, IsTurnOfItsSession, RunsSession, StopsFor}
+use Rattle.gcore.specs.Outcomes.{IsAsked, PrintsFirst, Request, Runs, Task, graph_names, graphs_due, outcome, query_file_due, request, session_due, texts, then_due}
+use Rattle.gcore.specs.Endings.{Answers, Call, Change, GainsDuePrefix, GainsNothing, GainsPrefix, HoldsText, HoldsTexts, IsTurnOfItsSession, MayBegin, RunsSession, StopsFor, WritesBeginning}
 use Rattle.gcore.specs.GraphSteps.{StopsReadingGraphs}
 use Rattle.gcore.specs.QueryFiles.{PlacedFile}
 use Rattle.gcore.specs.Steps.{StopsReadingQuery}
@@ -15,33 +15,40 @@ use Rattle.gcore.specs.declared.command.Command.{Command}
 use Rattle.gcore.specs.declared.command.Command.TheVariants.{Run}
 use Rattle.gcore.specs.declared.pair.Pair.{Pair}
 use Rattle.gcore.specs.declared.stop.Stop.{Stop}
-use Rattle.gcore.specs.declared.stop.Stop.TheVariants.{Usage, Unread, TooLarge, Refused, Text, Sorts, NotBuilt, Faulted, NoGraph, Unwritten, OutOfMemory}
+use Rattle.gcore.specs.declared.stop.Stop.TheVariants.{Usage, Unread, TooLarge, Refused, Text, Sorts, Certificate, Rejected, NotBuilt, Faulted, NoGraph, Unwritten, OutOfMemory}
 use Rattle.gcore.specs.declared.style.Style.TheVariants as style
 
 -- a sink that was not called
 abbrev pub still : ℕ → Option (List ℕ) → Change
 still faults taken = record { faults_before = faults; faults_after = faults; taken_before = taken; taken_after = taken }
 
+-- the beginning that a session wrote is that of a text which is due
+begun : (command : Option Command) (files : Files) (out : Change) (r : Request) → IsAsked (outcome command files) r → WritesBeginning r out
+    → (task : Task) × (text : List ℕ) × (outcome command files ≡ Ok task) × MayBegin task text × GainsPrefix out text
+begun command files out r asked w = (Runs r, texts r.style w.0, asked, (w.0, w.1, refl), w.2)
+
 -- a session that was run, for a command that asks for it
 pub ran : (command : Option Command) (told : Option Files) (before after : ℕ) (out : Change) (r : Request) → IsSome command → IsSomeAnd command (λ c. IsTurnOfItsSession told c)
     → IfSome told (λ files. IsAsked (outcome command files) r) → (result : Result (Unit {0}) Stop) → RunsSession r out result
     → Answers (record { command = command; files = told; faults_before = before; faults_after = after; out = out }) result
 ran command None before after out r some turn asked (Ok done) w = (some, tt)
-ran command (Some files) before after out r some turn asked (Ok done) w = (some, (r, w.0, asked, w.1, w.2))
+ran command (Some files) before after out r some turn asked (Ok done) w = (some, (Runs r, texts r.style w.0, asked, (w.0, w.1, refl), w.2))
 ran command None before after out r some turn asked (Err (Faulted fault)) w = (turn, tt)
 ran command (Some files) before after out r some turn asked (Err (Faulted fault)) w = (turn, (r, asked, w))
 ran command None before after out r some turn asked (Err NoGraph) w = (turn, tt)
 ran command (Some files) before after out r some turn asked (Err NoGraph) w = (turn, (r, asked, w))
 ran command None before after out r some turn asked (Err Unwritten) w = (some, w.0, tt)
-ran command (Some files) before after out r some turn asked (Err Unwritten) w = (some, w.0, inr (r, asked, w.1))
+ran command (Some files) before after out r some turn asked (Err Unwritten) w = (some, w.0, inr (begun command files out r asked w.1))
 ran command None before after out r some turn asked (Err OutOfMemory) w = tt
-ran command (Some files) before after out r some turn asked (Err OutOfMemory) w = inr (r, asked, w)
+ran command (Some files) before after out r some turn asked (Err OutOfMemory) w = inr (begun command files out r asked w)
 ran command told before after out r some turn asked (Err Usage) w = absurd w
 ran command told before after out r some turn asked (Err (Unread name)) w = absurd w
 ran command told before after out r some turn asked (Err (TooLarge name)) w = absurd w
 ran command told before after out r some turn asked (Err (Refused refusal name)) w = absurd w
 ran command told before after out r some turn asked (Err (Text refusal)) w = absurd w
 ran command told before after out r some turn asked (Err (Sorts rule place)) w = absurd w
+ran command told before after out r some turn asked (Err (Certificate refusal)) w = absurd w
+ran command told before after out r some turn asked (Err (Rejected search rule)) w = absurd w
 ran command told before after out r some turn asked (Err NotBuilt) w = absurd w
 
 module _ (query : List ℕ) (pairs : List Pair) where
@@ -50,9 +57,9 @@ module _ (query : List ℕ) (pairs : List Pair) where
 
   -- what is due, once the graphs and the query file are read
   due_of : (files : Files) (gs : List PropertyGraph) (due : Result PlacedFile Stop) → graphs_due files [] pairs ≡ Ok gs → query_file_due names files query ≡ due
-      → outcome (Some (Run query pairs)) files ≡ then_due due (request gs)
+      → outcome (Some (Run query pairs)) files ≡ session_due (then_due due (request gs))
   due_of files gs due a b =
-      ap (λ d. then_due d (λ hs. then_due (query_file_due names files query) (request hs))) a ∙ ap (λ d. then_due d (request gs)) b
+      ap (λ d. session_due (then_due d (λ hs. then_due (query_file_due names files query) (request hs)))) a ∙ ap (λ d. session_due (then_due d (request gs))) b
 
   -- what is asked for over loaded graphs
   abbrev over : List PropertyGraph → PlacedFile → Request
@@ -68,11 +75,11 @@ module _ (query : List ℕ) (pairs : List Pair) where
   room_holds told gs file room h a b = λ x here graphs first. within told x graphs (h x here) a b first
     where
       within : (o : Option Files) (x : ℕ) (graphs : List PropertyGraph)
-          → IsSomeAnd o (λ files. (r : Request) (graphs : List PropertyGraph) → IsAsked (outcome (Some (Run query pairs)) files) r → PrintsFirst r graphs → length (texts style.Text graphs) ≤ x)
+          → IsSomeAnd o (λ files. (task : Task) (text : List ℕ) → outcome (Some (Run query pairs)) files ≡ Ok task → MayBegin task text → length text ≤ x)
           → IfSome o (λ files. graphs_due files [] pairs ≡ Ok gs) → IfSome o (λ files. query_file_due names files query ≡ Ok file)
           → PrintsFirst (over gs file) graphs → length (texts style.Text graphs) ≤ x
       within None x graphs holds c d first = absurd holds
-      within (Some files) x graphs holds c d first = holds (over gs file) graphs (asked_is files gs file c d) first
+      within (Some files) x graphs holds c d first = holds (Runs (over gs file)) (texts style.Text graphs) (asked_is files gs file c d) (graphs, first, refl)
 
   -- the stop that is due, once the graphs are read
   due_stop : (files : Files) (gs : List PropertyGraph) (stop : Stop) → graphs_due files [] pairs ≡ Ok gs → query_file_due names files query ≡ Err stop → outcome (Some (Run query pairs)) files ≡ Err stop
@@ -104,6 +111,8 @@ module _ (query : List ℕ) (pairs : List Pair) where
   query_stops (Some files) gs before middle after faults taken (Text refusal) graphs le h = ((refl, subst IsOk (sym graphs) refl), due_stop files gs (Text refusal) graphs h, refl)
   query_stops None gs before middle after faults taken (Sorts rule place) graphs le h = ((refl, tt), tt, refl)
   query_stops (Some files) gs before middle after faults taken (Sorts rule place) graphs le h = ((refl, subst IsOk (sym graphs) refl), due_stop files gs (Sorts rule place) graphs h, refl)
+  query_stops told gs before middle after faults taken (Certificate refusal) graphs le h = absurd h
+  query_stops told gs before middle after faults taken (Rejected search rule) graphs le h = absurd h
   query_stops told gs before middle after faults taken NotBuilt graphs le h = absurd h
   query_stops told gs before middle after faults taken (Faulted fault) graphs le h = absurd h
   query_stops told gs before middle after faults taken NoGraph graphs le h = absurd h
@@ -111,7 +120,7 @@ module _ (query : List ℕ) (pairs : List Pair) where
   query_stops told gs before middle after faults taken OutOfMemory graphs le h = nothing_is_prefix told before after (still faults taken) refl
 
   first_stop : (files : Files) (stop : Stop) → graphs_due files [] pairs ≡ Err stop → outcome (Some (Run query pairs)) files ≡ Err stop
-  first_stop files stop a = ap (λ d. then_due d (λ hs. then_due (query_file_due names files query) (request hs))) a
+  first_stop files stop a = ap (λ d. session_due (then_due d (λ hs. then_due (query_file_due names files query) (request hs)))) a
 
   first_or_fault : (files : Files) (before after : ℕ) (stop : Stop) → (graphs_due files [] pairs ≡ Err stop) ⊎ Rose before after → (outcome (Some (Run query pairs)) files ≡ Err stop) ⊎ Rose before after
   first_or_fault files before after stop (inl due) = inl (first_stop files stop due)
@@ -129,6 +138,8 @@ module _ (query : List ℕ) (pairs : List Pair) where
   graph_stops (Some files) before after faults taken (Refused refusal file) h = (h.0, first_stop files (Refused refusal file) h.1, refl)
   graph_stops told before after faults taken (Text refusal) h = absurd h
   graph_stops told before after faults taken (Sorts rule place) h = absurd h
+  graph_stops told before after faults taken (Certificate refusal) h = absurd h
+  graph_stops told before after faults taken (Rejected search rule) h = absurd h
   graph_stops told before after faults taken NotBuilt h = absurd h
   graph_stops told before after faults taken (Faulted fault) h = absurd h
   graph_stops told before after faults taken NoGraph h = absurd h

@@ -22,7 +22,7 @@ use Rattle.gcore.specs.Outcomes.{Prints, PrintsFirst, Request, beginning, printe
 use Rattle.gcore.specs.QueryFiles.{PlacedFile}
 use Rattle.gcore.specs.SessionSteps.{GoesWell, HoldsPrinted, IsAtFault, IsCut, IsPrinted, RunsStatement, RunsStatementAt, Turn}
 use Rattle.gcore.specs.declared.stop.Stop.{Stop}
-use Rattle.gcore.specs.declared.stop.Stop.TheVariants.{Usage, Unread, TooLarge, Refused, Text, Sorts, NotBuilt, Faulted, NoGraph, Unwritten, OutOfMemory}
+use Rattle.gcore.specs.declared.stop.Stop.TheVariants.{Usage, Unread, TooLarge, Refused, Text, Sorts, Certificate, Rejected, NotBuilt, Faulted, NoGraph, Unwritten, OutOfMemory}
 use Rattle.gcore.specs.declared.style.Style.{Style}
 
 -- texts behind texts
@@ -221,6 +221,8 @@ module _ (r : Request) where
     stops (Refused refusal file) h = absurd h
     stops (Text refusal) h = absurd h
     stops (Sorts rule place) h = absurd h
+    stops (Certificate refusal) h = absurd h
+    stops (Rejected search rule) h = absurd h
 
   -- a told room that holds the texts of the session holds that of the next statement
   pub room_for : (i : ℕ) (at : Standing) (out : Change) (room_before room_later : Option ℕ) → HoldsTexts room_before r → IsWritten i at out room_before room_later

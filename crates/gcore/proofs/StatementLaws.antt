@@ -16,7 +16,7 @@ use Rattle.gcore.specs.Endings.{Change, Gains, GainsPrefix, WritesText}
 use Rattle.gcore.specs.Outcomes.{printed, texts}
 use Rattle.gcore.specs.SessionSteps.{HoldsPrinted, IsPrinted, RunsStatementAt, Turn}
 use Rattle.gcore.specs.declared.stop.Stop.{Stop}
-use Rattle.gcore.specs.declared.stop.Stop.TheVariants.{Usage, Unread, TooLarge, Refused, Text, Sorts, NotBuilt, Faulted, NoGraph, Unwritten, OutOfMemory}
+use Rattle.gcore.specs.declared.stop.Stop.TheVariants.{Usage, Unread, TooLarge, Refused, Text, Sorts, Certificate, Rejected, NotBuilt, Faulted, NoGraph, Unwritten, OutOfMemory}
 use Rattle.gcore.specs.declared.style.Style.{Style}
 use Rattle.gcore.proofs.SessionLaws.{known_nothing, same_room}
 
@@ -67,6 +67,8 @@ module _ (s : Scope) (sts : List (Tree AStatement)) (i : ℕ) (before after : Na
     prints g (Err (Refused refusal file)) step w room calm = absurd w
     prints g (Err (Text refusal)) step w room calm = absurd w
     prints g (Err (Sorts rule place)) step w room calm = absurd w
+    prints g (Err (Certificate refusal)) step w room calm = absurd w
+    prints g (Err (Rejected search rule)) step w room calm = absurd w
     prints g (Err NotBuilt) step w room calm = absurd w
     prints g (Err (Faulted fault)) step w room calm = absurd w
     prints g (Err NoGraph) step w room calm = absurd w

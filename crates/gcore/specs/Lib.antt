@@ -1,3 +1,4 @@
+pub mod CertificateLines
 pub mod CommandLines
 pub mod Endings
 pub mod FaultLines

@@ -35,6 +35,10 @@ graph_limit = 33554432
 abbrev pub query_limit : ℕ
 query_limit = 1048576
 
+-- a document may have as many as a graph file
+abbrev pub document_limit : ℕ
+document_limit = graph_limit
+
 -- one thing after another: the first stop is due
 abbrev pub then_due : {A B : Type 0} → Result A Stop → (A → Result B Stop) → Result B Stop
 then_due (Ok x) next = next x
@@ -122,26 +126,42 @@ make_request g query = Ok (record { graphs = g ∷ []; query = query; style = Su
 abbrev pub make_due : MakeKind → (size start : ℕ) → Result Request Stop
 make_due kind size start = then_due (query_file_of (made_name ∷ []) make_query) (make_request (made kind size start))
 
--- what a command is asked; those that are not built yet stop directly
-abbrev pub command_due : Files → Command → Result Request Stop
-command_due files (Run query pairs) = run_due files query pairs
+-- what a call has to do: to run a session, or to check the bytes of a document
+pub data Task : Type 0 where
+  Runs : Request → Task
+  Checks : List ℕ → Task
+
+-- a session as what is due
+abbrev pub session_due : Result Request Stop → Result Task Stop
+session_due due = then_due due (λ r. Ok (Runs r))
+
+-- the document that is checked
+abbrev pub check_due : Files → List ℕ → Result Task Stop
+check_due files document = then_due (file_due files document document_limit) (λ bytes. Ok (Checks bytes))
+
+-- what a command has to do; those that are not built yet stop directly
+abbrev pub command_due : Files → Command → Result Task Stop
+command_due files (Run query pairs) = session_due (run_due files query pairs)
 command_due files (Cert query pairs) = Err NotBuilt
 command_due files (Explain query pairs) = Err NotBuilt
-command_due files (Check document) = Err NotBuilt
-command_due files (Make kind size start) = make_due kind size start
+command_due files (Check document) = check_due files document
+command_due files (Make kind size start) = session_due (make_due kind size start)
 
 -- words that are no command are a usage fault
 abbrev pub form_due : Option Command → Result Command Stop
 form_due None = Err Usage
 form_due (Some command) = Ok command
 
--- the outcome of a call, what it is asked or the stop that is due, by the command that its words are, if any
-abbrev pub outcome : Option Command → Files → Result Request Stop
+-- the outcome of a call, what it has to do or the stop that is due, by the command that its words are, if any
+abbrev pub outcome : Option Command → Files → Result Task Stop
 outcome command files = then_due (form_due command) (command_due files)
 
--- a call is asked for the session of a request
-abbrev pub IsAsked : Result Request Stop → Request → Type 0
-IsAsked due r = due ≡ Ok r
+-- a call is asked for the session of a request, and for the check of these bytes
+abbrev pub IsAsked : Result Task Stop → Request → Type 0
+IsAsked due r = due ≡ Ok (Runs r)
+
+abbrev pub IsToCheck : Result Task Stop → List ℕ → Type 0
+IsToCheck due bytes = due ≡ Ok (Checks bytes)
 
 -- why there is no command, as a stop
 abbrev pub stop_of_command : CommandRefusal → Stop

@@ -4,6 +4,7 @@ ghost use Rattle.gcore.specs.CommandLines.{KeepsLimits};
 ghost use Rattle.gcore.specs.Endings.{Answers, Call, Change, HoldsText};
 ghost use Rattle.gcore.specs.declared.command.Command.TheVariants.{Run};
 
+use crate::checking::run_check;
 use crate::command::Command;
 use crate::graphs::read_graphs;
 use crate::inputs::read_query;
@@ -18,7 +19,8 @@ use std::alloc::Global;
 use std::mem::ManuallyDrop;
 use std::sync::ledger::Ledger;
 
-/// Runs a command: its graph files are read first, then the query file, then the answer is written. `make` reads no file.
+/// Runs a command: its graph files are read first, then the query file, then the answer is written. `check` reads a
+/// document alone, and `make` no file.
 /// A command that is not built yet stops directly.
 pub fn run<F: Folder, S: Sink, L: Ledger>(
     alloc: Global,
@@ -55,7 +57,7 @@ pub fn run<F: Folder, S: Sink, L: Ledger>(
             query: _,
             graphs: _,
         } => Err(Stop::NotBuilt),
-        Command::Check { document: _ } => Err(Stop::NotBuilt),
+        Command::Check { document } => run_check(alloc, document, folder, out, steps),
         Command::Make { kind, size, start } => { run_make(alloc, *kind, *size, *start, out, steps) }
     }
 }
