@@ -3,11 +3,6 @@ use super::first_failing;
 use std::test::Fail;
 
 const CASES: &str = r##"
-check-not-built
-$ check c
-c: {}
-= 11 gcore: not built
-
 cert-not-built
 $ cert q g=a
 a: «labels»
