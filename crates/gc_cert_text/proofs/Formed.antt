@@ -19,6 +19,7 @@ use Rattle.gc_cert_text.specs.Certificates.{SearchTold, certificate_of, certific
 use Rattle.gc_cert_text.specs.Expressions.{expression_in, is_small, small_tree_of_tokens, tree_of_text, tree_of_tokens}
 use Rattle.gc_cert_text.specs.FormedSearches.{IsFormedSearch}
 use Rattle.gc_cert_text.specs.Graphs.{graph_in}
+use Rattle.gc_cert_text.specs.Nesting.{nesting_of}
 use Rattle.gc_cert_text.specs.Options.{◌>>=◌, found, if_so, each_of, list_at, array_at}
 use Rattle.gc_cert_text.specs.SearchNumberTexts.{numbers_in}
 use Rattle.gc_cert_text.specs.SegmentsOfGraphs.{are_segments_of, is_segment_cost, is_segment_of, segment_cost_in, segment_in, segments_in, view_in}
@@ -28,6 +29,7 @@ use Rattle.gc_cert_text.specs.declared.refusal.CertRefusal.{CertRefusal}
 use Rattle.gc_cert_text.specs.declared.refusal.CertRefusal.TheVariants.{NotJson, WrongShape, BadGraph, BadExpression, BadSegment, BadNumber}
 use Rattle.gc_cert_text.proofs.ExpressionTexts.{tree_spelled}
 use Rattle.gc_cert_text.proofs.FoundLaws.{was_found}
+use Rattle.gc_cert_text.proofs.SpelledNesting.{spelled_nests}
 use Rattle.gc_print.proofs.GrammarGives.{regex_gives}
 use Rattle.gc_print.proofs.LexedWords.{lexed_written}
 
@@ -63,6 +65,7 @@ small tree h = grind (arith, nat_tests)
 record IsFormedTree (tree : RegexTree ARegex) : Type 0 where
   pub expression : IsExpression tree
   pub few : (automaton_of {k = ARegex} tree).states ≤ 1024
+  pub shallow : nesting_of {k = ARegex} tree ≤ 64
 
 text_formed : (text : List ℕ) (tree : RegexTree ARegex) → tree_of_text text ≡ Some tree → IsFormedTree tree
 text_formed text tree h =
@@ -71,7 +74,7 @@ text_formed text tree h =
     let is = passed is_small whole.0 tree whole.2 in
     let spelled = tree_spelled list.0.tokens whole.0 whole.1 in
     let given : IsExpression whole.0 = regex_gives list.0.tokens whole.0 (lexed_written text list.0 (was_found (lexed text) list.0 list.1)) spelled.1 in
-    subst IsFormedTree is.1 (record { expression = given; few = small whole.0 is.0 })
+    subst IsFormedTree is.1 (record { expression = given; few = small whole.0 is.0; shallow = spelled_nests list.0.tokens whole.0 spelled.0 spelled.1 })
 
 tree_formed : (d : Data) (tree : RegexTree ARegex) → tree_in d ≡ Some tree → IsFormedTree tree
 tree_formed d tree h =
@@ -130,7 +133,7 @@ search_formed i d s h =
     let formed = tree_formed d tree.0 (was_there (BadExpression i) (tree_in d) tree.0 tree.1) in
     let are = segments_formed graph.0 d segments.0 (was_there (BadSegment i) (segments_in graph.0 d) segments.0 segments.1) in
     let same : record { expression = tree.0; graph = graph.0; potentials = numbers.0.potentials; segments = segments.0; start = numbers.0.start; walks = numbers.0.walks } ≡ s = cc in
-    subst IsFormedSearch same (record { expression = formed.expression; few = formed.few; segments = are })
+    subst IsFormedSearch same (record { expression = formed.expression; few = formed.few; shallow = formed.shallow; segments = are })
 
 searches_formed : (i : ℕ) (ds : Items) (ss : List SearchTold) → searches_from i ds ≡ Ok ss → AllByRecursion IsFormedSearch ss
 searches_formed i no_items [] h = tt

@@ -1,9 +1,14 @@
+pub mod CertificateTexts
 pub mod Certificates
 pub mod Expressions
 pub mod FormedSearches
 pub mod Graphs
+pub mod Nesting
 pub mod Numbers
 pub mod Options
 pub mod SearchNumberTexts
+pub mod SearchTokens
 pub mod SegmentsOfGraphs
 pub mod Shapes
+pub mod WordTrees
+pub mod WritableSearches

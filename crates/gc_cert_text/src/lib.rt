@@ -3,6 +3,7 @@
 #![tactic(auto)]
 
 mod certificate;
+mod elements;
 mod expressions;
 mod graph_walks;
 mod graphs;
@@ -15,8 +16,13 @@ mod search_numbers;
 mod segments;
 mod shapes;
 mod walks;
+mod words;
+mod writing;
+mod written;
+mod written_expressions;
 
 pub use certificate::{Certificate, SearchDocList};
-pub use laws::certificates_are_formed;
+pub use laws::{certificates_are_formed, written_certificates_read_back};
 pub use reading::read;
 pub use refusal::CertRefusal;
+pub use writing::write;

@@ -1,5 +1,5 @@
 /// A rule that the document of a search has to keep.
-#[derive(Clone, Copy)]
+#[derive(Clone, Copy, Debug, PartialEq, Eq)]
 pub enum KRule {
     /// Potentials strictly ascend by node, then by state, and each is of a node and a state that there are.
     PotentialsListed,
