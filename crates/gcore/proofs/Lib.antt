@@ -1,6 +1,10 @@
 pub mod CommandLaws
 pub mod GraphsRead
 pub mod RunLaws
+pub mod MakeQueryRead
+pub mod MakeLaws
+pub mod CheckLaws
+pub mod SummaryLaws
 pub mod QueryFileLaws
 pub mod SortedFiles
 pub mod TextPlaces

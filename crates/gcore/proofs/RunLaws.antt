@@ -1,24 +1,53 @@
 -- How a run ends, once its graphs are read.
 use Rattle.std.proofs.Common.{◌≡◌, ℕ, ◌≤◌, List, [], length, Option, None, Some, Result, Ok, Err, ap, ◌∙◌, subst, sym, refl, arith, inl, inr}
 use Rattle.std.specs.Result.{IsErr, IsErrAnd}
-use Rattle.std.specs.Prelude.{IfSome, IsOk, IsSomeAnd, ◌⊎◌}
+use Rattle.std.specs.Prelude.{IfSome, IsOk, IsSome, IsSomeAnd, ◌⊎◌}
 use Rattle.gc_base.specs.Faults.{Rose}
 use Rattle.gc_base.specs.Files.{Files}
 use Rattle.std.specs.Io.KnownBytes.{append_known}
 use Rattle.gc_spec.specs.PropertyGraph.{PropertyGraph}
-use Rattle.gcore.specs.Outcomes.{IsAsked, PrintsFirst, Request, graph_names, graphs_due, outcome, query_file_due, request, texts, then_due}
-use Rattle.gcore.specs.Endings.{Answers, Call, Change, GainsDuePrefix, GainsNothing, HoldsText, HoldsTexts, RunsSession, StopsFor}
+use Rattle.gcore.specs.Outcomes.{IsAsked, PrintsFirst, Request, Runs, Task, graph_names, graphs_due, outcome, query_file_due, request, session_due, texts, then_due}
+use Rattle.gcore.specs.Endings.{Answers, Call, Change, GainsDuePrefix, GainsNothing, GainsPrefix, HoldsText, HoldsTexts, IsTurnOfItsSession, MayBegin, RunsSession, StopsFor, WritesBeginning}
 use Rattle.gcore.specs.GraphSteps.{StopsReadingGraphs}
 use Rattle.gcore.specs.QueryFiles.{PlacedFile}
 use Rattle.gcore.specs.Steps.{StopsReadingQuery}
+use Rattle.gcore.specs.declared.command.Command.{Command}
 use Rattle.gcore.specs.declared.command.Command.TheVariants.{Run}
 use Rattle.gcore.specs.declared.pair.Pair.{Pair}
 use Rattle.gcore.specs.declared.stop.Stop.{Stop}
-use Rattle.gcore.specs.declared.stop.Stop.TheVariants.{Usage, Unread, TooLarge, Refused, Text, Sorts, NotBuilt, Faulted, Unwritten, OutOfMemory}
+use Rattle.gcore.specs.declared.stop.Stop.TheVariants.{Usage, Unread, TooLarge, Refused, Text, Sorts, Certificate, Rejected, NotBuilt, Faulted, Unwritten, OutOfMemory}
+use Rattle.gcore.specs.declared.style.Style.TheVariants as style
 
 -- a sink that was not called
 abbrev pub still : ℕ → Option (List ℕ) → Change
 still faults taken = record { faults_before = faults; faults_after = faults; taken_before = taken; taken_after = taken }
+
+-- the beginning that a session wrote is that of a text which is due
+begun : (command : Option Command) (files : Files) (out : Change) (r : Request) → IsAsked (outcome command files) r → WritesBeginning r out
+    → (task : Task) × (text : List ℕ) × (outcome command files ≡ Ok task) × MayBegin task text × GainsPrefix out text
+begun command files out r asked w = (Runs r, texts r.style w.0, asked, (w.0, w.1, refl), w.2)
+
+-- a session that was run, for a command that asks for it
+pub ran : (command : Option Command) (told : Option Files) (before after : ℕ) (out : Change) (r : Request) → IsSome command → IsSomeAnd command (λ c. IsTurnOfItsSession told c)
+    → IfSome told (λ files. IsAsked (outcome command files) r) → (result : Result (Unit {0}) Stop) → RunsSession r out result
+    → Answers (record { command = command; files = told; faults_before = before; faults_after = after; out = out }) result
+ran command None before after out r some turn asked (Ok done) w = (some, tt)
+ran command (Some files) before after out r some turn asked (Ok done) w = (some, (Runs r, texts r.style w.0, asked, (w.0, w.1, refl), w.2))
+ran command None before after out r some turn asked (Err (Faulted fault)) w = (turn, tt)
+ran command (Some files) before after out r some turn asked (Err (Faulted fault)) w = (turn, (r, asked, w))
+ran command None before after out r some turn asked (Err Unwritten) w = (some, w.0, tt)
+ran command (Some files) before after out r some turn asked (Err Unwritten) w = (some, w.0, inr (begun command files out r asked w.1))
+ran command None before after out r some turn asked (Err OutOfMemory) w = tt
+ran command (Some files) before after out r some turn asked (Err OutOfMemory) w = inr (begun command files out r asked w)
+ran command told before after out r some turn asked (Err Usage) w = absurd w
+ran command told before after out r some turn asked (Err (Unread name)) w = absurd w
+ran command told before after out r some turn asked (Err (TooLarge name)) w = absurd w
+ran command told before after out r some turn asked (Err (Refused refusal name)) w = absurd w
+ran command told before after out r some turn asked (Err (Text refusal)) w = absurd w
+ran command told before after out r some turn asked (Err (Sorts rule place)) w = absurd w
+ran command told before after out r some turn asked (Err (Certificate refusal)) w = absurd w
+ran command told before after out r some turn asked (Err (Rejected search rule)) w = absurd w
+ran command told before after out r some turn asked (Err NotBuilt) w = absurd w
 
 module _ (query : List ℕ) (pairs : List Pair) where
   abbrev names : List (List ℕ)
@@ -26,13 +55,13 @@ module _ (query : List ℕ) (pairs : List Pair) where
 
   -- what is due, once the graphs and the query file are read
   due_of : (files : Files) (gs : List PropertyGraph) (due : Result PlacedFile Stop) → graphs_due files [] pairs ≡ Ok gs → query_file_due names files query ≡ due
-      → outcome (Some (Run query pairs)) files ≡ then_due due (request gs)
+      → outcome (Some (Run query pairs)) files ≡ session_due (then_due due (request gs))
   due_of files gs due a b =
-      ap (λ d. then_due d (λ hs. then_due (query_file_due names files query) (request hs))) a ∙ ap (λ d. then_due d (request gs)) b
+      ap (λ d. session_due (then_due d (λ hs. then_due (query_file_due names files query) (request hs)))) a ∙ ap (λ d. session_due (then_due d (request gs))) b
 
   -- what is asked for over loaded graphs
   abbrev over : List PropertyGraph → PlacedFile → Request
-  over gs file = record { graphs = gs; query = file }
+  over gs file = record { graphs = gs; query = file; style = style.Text }
 
   asked_is : (files : Files) (gs : List PropertyGraph) (file : PlacedFile) → graphs_due files [] pairs ≡ Ok gs → query_file_due names files query ≡ Ok file
       → IsAsked (outcome (Some (Run query pairs)) files) (over gs file)
@@ -44,11 +73,11 @@ module _ (query : List ℕ) (pairs : List Pair) where
   room_holds told gs file room h a b = λ x here graphs first. within told x graphs (h x here) a b first
     where
       within : (o : Option Files) (x : ℕ) (graphs : List PropertyGraph)
-          → IsSomeAnd o (λ files. (r : Request) (graphs : List PropertyGraph) → IsAsked (outcome (Some (Run query pairs)) files) r → PrintsFirst r graphs → length (texts graphs) ≤ x)
+          → IsSomeAnd o (λ files. (task : Task) (text : List ℕ) → outcome (Some (Run query pairs)) files ≡ Ok task → MayBegin task text → length text ≤ x)
           → IfSome o (λ files. graphs_due files [] pairs ≡ Ok gs) → IfSome o (λ files. query_file_due names files query ≡ Ok file)
-          → PrintsFirst (over gs file) graphs → length (texts graphs) ≤ x
+          → PrintsFirst (over gs file) graphs → length (texts style.Text graphs) ≤ x
       within None x graphs holds c d first = absurd holds
-      within (Some files) x graphs holds c d first = holds (over gs file) graphs (asked_is files gs file c d) first
+      within (Some files) x graphs holds c d first = holds (Runs (over gs file)) (texts style.Text graphs) (asked_is files gs file c d) (graphs, first, refl)
 
   -- the stop that is due, once the graphs are read
   due_stop : (files : Files) (gs : List PropertyGraph) (stop : Stop) → graphs_due files [] pairs ≡ Ok gs → query_file_due names files query ≡ Err stop → outcome (Some (Run query pairs)) files ≡ Err stop
@@ -80,13 +109,15 @@ module _ (query : List ℕ) (pairs : List Pair) where
   query_stops (Some files) gs before middle after faults taken (Text refusal) graphs le h = ((refl, subst IsOk (sym graphs) refl), due_stop files gs (Text refusal) graphs h, refl)
   query_stops None gs before middle after faults taken (Sorts rule place) graphs le h = ((refl, tt), tt, refl)
   query_stops (Some files) gs before middle after faults taken (Sorts rule place) graphs le h = ((refl, subst IsOk (sym graphs) refl), due_stop files gs (Sorts rule place) graphs h, refl)
+  query_stops told gs before middle after faults taken (Certificate refusal) graphs le h = absurd h
+  query_stops told gs before middle after faults taken (Rejected search rule) graphs le h = absurd h
   query_stops told gs before middle after faults taken NotBuilt graphs le h = absurd h
   query_stops told gs before middle after faults taken (Faulted fault) graphs le h = absurd h
   query_stops told gs before middle after faults taken Unwritten graphs le h = absurd h
   query_stops told gs before middle after faults taken OutOfMemory graphs le h = nothing_is_prefix told before after (still faults taken) refl
 
   first_stop : (files : Files) (stop : Stop) → graphs_due files [] pairs ≡ Err stop → outcome (Some (Run query pairs)) files ≡ Err stop
-  first_stop files stop a = ap (λ d. then_due d (λ hs. then_due (query_file_due names files query) (request hs))) a
+  first_stop files stop a = ap (λ d. session_due (then_due d (λ hs. then_due (query_file_due names files query) (request hs)))) a
 
   first_or_fault : (files : Files) (before after : ℕ) (stop : Stop) → (graphs_due files [] pairs ≡ Err stop) ⊎ Rose before after → (outcome (Some (Run query pairs)) files ≡ Err stop) ⊎ Rose before after
   first_or_fault files before after stop (inl due) = inl (first_stop files stop due)
@@ -104,44 +135,29 @@ module _ (query : List ℕ) (pairs : List Pair) where
   graph_stops (Some files) before after faults taken (Refused refusal file) h = (h.0, first_stop files (Refused refusal file) h.1, refl)
   graph_stops told before after faults taken (Text refusal) h = absurd h
   graph_stops told before after faults taken (Sorts rule place) h = absurd h
+  graph_stops told before after faults taken (Certificate refusal) h = absurd h
+  graph_stops told before after faults taken (Rejected search rule) h = absurd h
   graph_stops told before after faults taken NotBuilt h = absurd h
   graph_stops told before after faults taken (Faulted fault) h = absurd h
   graph_stops told before after faults taken Unwritten h = absurd h
   graph_stops told before after faults taken OutOfMemory h = nothing_is_prefix told before after (still faults taken) refl
 
-  -- a call over graphs and statements that were read
-  abbrev call_of : Option Files → ℕ → ℕ → Change → Call
-  call_of told before after out = record { command = Some (Run query pairs); files = told; faults_before = before; faults_after = after; out = out }
+  -- the turn of the query came, once the graphs are read
+  turn : (told : Option Files) (gs : List PropertyGraph) → IfSome told (λ files. graphs_due files [] pairs ≡ Ok gs) → IfSome told (λ files. IsOk (graphs_due files [] pairs))
+  turn None gs a = tt
+  turn (Some files) gs a = subst IsOk (sym a) refl
 
-  module _ (told : Option Files) (gs : List PropertyGraph) (file : PlacedFile) (before after : ℕ) (out : Change)
-      (a : IfSome told (λ files. graphs_due files [] pairs ≡ Ok gs)) (b : IfSome told (λ files. query_file_due names files query ≡ Ok file)) where
-    -- the turn of the query file came
-    turn : (t : Option Files) → IfSome t (λ files. graphs_due files [] pairs ≡ Ok gs) → IfSome t (λ files. IsOk (graphs_due files [] pairs))
-    turn None c = tt
-    turn (Some files) c = subst IsOk (sym c) refl
+  -- the session is asked for, once the query file is read too
+  asked : (told : Option Files) (gs : List PropertyGraph) (file : PlacedFile) → IfSome told (λ files. graphs_due files [] pairs ≡ Ok gs) → IfSome told (λ files. query_file_due names files query ≡ Ok file)
+      → IfSome told (λ files. IsAsked (outcome (Some (Run query pairs)) files) (over gs file))
+  asked None gs file a b = tt
+  asked (Some files) gs file a b = asked_is files gs file a b
 
-    -- a session that was run
-    ran : (t : Option Files) (result : Result (Unit {0}) Stop) → IfSome t (λ files. graphs_due files [] pairs ≡ Ok gs) → IfSome t (λ files. query_file_due names files query ≡ Ok file)
-        → RunsSession (over gs file) out result → Answers (call_of t before after out) result
-    ran None (Ok done) c d w = (refl, tt)
-    ran (Some files) (Ok done) c d w = (refl, (over gs file, w.0, asked_is files gs file c d, w.1, w.2))
-    ran None (Err (Faulted fault)) c d w = ((refl, tt), tt)
-    ran (Some files) (Err (Faulted fault)) c d w = ((refl, turn (Some files) c), (over gs file, asked_is files gs file c d, w))
-    ran None (Err Unwritten) c d w = (refl, w.0, tt)
-    ran (Some files) (Err Unwritten) c d w = (refl, w.0, inr (over gs file, asked_is files gs file c d, w.1))
-    ran None (Err OutOfMemory) c d w = tt
-    ran (Some files) (Err OutOfMemory) c d w = inr (over gs file, asked_is files gs file c d, w)
-    ran t (Err Usage) c d w = absurd w
-    ran t (Err (Unread name)) c d w = absurd w
-    ran t (Err (TooLarge name)) c d w = absurd w
-    ran t (Err (Refused refusal name)) c d w = absurd w
-    ran t (Err (Text refusal)) c d w = absurd w
-    ran t (Err (Sorts rule place)) c d w = absurd w
-    ran t (Err NotBuilt) c d w = absurd w
-
-    -- what a call does that has read its graphs and its query file
-    pub written : (result : Result (Unit {0}) Stop) → RunsSession (over gs file) out result → Answers (call_of told before after out) result
-    written result w = ran told result a b w
+  -- what a call does that has read its graphs and its query file
+  pub written : (told : Option Files) (gs : List PropertyGraph) (file : PlacedFile) (before after : ℕ) (out : Change) → IfSome told (λ files. graphs_due files [] pairs ≡ Ok gs)
+      → IfSome told (λ files. query_file_due names files query ≡ Ok file) → (result : Result (Unit {0}) Stop) → RunsSession (over gs file) out result
+      → Answers (record { command = Some (Run query pairs); files = told; faults_before = before; faults_after = after; out = out }) result
+  written told gs file before after out a b result w = ran (Some (Run query pairs)) told before after out (over gs file) refl (refl, turn told gs a) (asked told gs file a b) result w
 
 -- what a call that stops for a cause answers
 pub answers_stop : (call : Call) (result : Result (Unit {0}) Stop) (stop : Stop) → IsErr result → IsErrAnd result (λ refusal. refusal ≡ stop) → StopsFor call stop → Answers call result

@@ -22,12 +22,13 @@ use Rattle.gcore.specs.Outcomes.{Prints, PrintsFirst, Request, beginning, printe
 use Rattle.gcore.specs.QueryFiles.{PlacedFile}
 use Rattle.gcore.specs.SessionSteps.{GoesWell, HoldsPrinted, IsAtFault, IsCut, IsPrinted, RunsStatement, RunsStatementAt, Turn}
 use Rattle.gcore.specs.declared.stop.Stop.{Stop}
-use Rattle.gcore.specs.declared.stop.Stop.TheVariants.{Usage, Unread, TooLarge, Refused, Text, Sorts, NotBuilt, Faulted, Unwritten, OutOfMemory}
+use Rattle.gcore.specs.declared.stop.Stop.TheVariants.{Usage, Unread, TooLarge, Refused, Text, Sorts, Certificate, Rejected, NotBuilt, Faulted, Unwritten, OutOfMemory}
+use Rattle.gcore.specs.declared.style.Style.{Style}
 
 -- texts behind texts
-texts_more : (xs ys : List PropertyGraph) → texts (xs ++ ys) ≡ texts xs ++ texts ys
-texts_more [] ys = refl
-texts_more (x ∷ xs) ys = ap (λ rest. printed x ++ rest) (texts_more xs ys) ∙ sym (append_assoc (printed x) (texts xs) (texts ys))
+texts_more : (style : Style) (xs ys : List PropertyGraph) → texts style (xs ++ ys) ≡ texts style xs ++ texts style ys
+texts_more style [] ys = refl
+texts_more style (x ∷ xs) ys = ap (λ rest. printed style x ++ rest) (texts_more style xs ys) ∙ sym (append_assoc (printed style x) (texts style xs) (texts style ys))
 
 -- what is gained in two goes
 known_more : (taken : Option (List ℕ)) (xs ys : List ℕ) → append_known (append_known taken xs) ys ≡ append_known taken (xs ++ ys)
@@ -93,6 +94,10 @@ module _ (r : Request) where
   nothing_begins at [] = refl
   nothing_begins at (statement ∷ later) = inl refl
 
+  -- where memory is wanting before the first statement, nothing was written
+  pub wants_at_first : (faults : ℕ) (taken : Option (List ℕ)) → RunsSession r (record { faults_before = faults; faults_after = faults; taken_before = taken; taken_after = taken }) (Err OutOfMemory)
+  wants_at_first faults taken = ([], nothing_begins (beginning r.graphs) statements, ([], [], refl, sym (known_nothing taken)))
+
   none_left : (at : Standing) (end : Option Fault) → end ≡ None → Session scope at [] [] end
   unfolding Session
   none_left at end h = (refl, h)
@@ -134,8 +139,8 @@ module _ (r : Request) where
   pub record IsWritten (i : ℕ) (at : Standing) (out : Change) (room_before room_later : Option ℕ) : Type 0 where
     pub graphs : List PropertyGraph
     pub so_far : IsSoFar i at graphs
-    pub told : Gains out (texts graphs)
-    pub room : room_later ≡ room_after room_before (length (texts graphs))
+    pub told : Gains out (texts r.style graphs)
+    pub room : room_later ≡ room_after room_before (length (texts r.style graphs))
     pub calm : out.faults_before ≤ out.faults_after
 
   -- nothing was
@@ -151,10 +156,10 @@ module _ (r : Request) where
   module _ (i : ℕ) (places : List Place) (out now : Change) (room_before room_middle room_later : Option ℕ) (at after : Standing) (far : IsWritten i at out room_before room_middle)
       (taken : out.taken_after ≡ now.taken_before) (faults : out.faults_after ≡ now.faults_before) (statement : Tree AStatement) (there : slice_get statements i ≡ Some statement) where
     abbrev turn : Turn
-    turn = record { before = at; after = after; out = now; room_before = room_middle; room_later = room_later }
+    turn = record { style = r.style; before = at; after = after; out = now; room_before = room_middle; room_later = room_later }
 
-    gained_both : (graphs : List PropertyGraph) (text : List ℕ) → Gains out (texts graphs) → Gains now text → Gains (joined_changes out now) (texts graphs ++ text)
-    gained_both graphs text a b = b ∙ (ap (λ t. append_known t text) (sym taken ∙ a) ∙ known_more out.taken_before (texts graphs) text)
+    gained_both : (graphs : List PropertyGraph) (text : List ℕ) → Gains out (texts r.style graphs) → Gains now text → Gains (joined_changes out now) (texts r.style graphs ++ text)
+    gained_both graphs text a b = b ∙ (ap (λ t. append_known t text) (sym taken ∙ a) ∙ known_more out.taken_before (texts r.style graphs) text)
 
     -- the told room behind both
     room_both : (o : Option ℕ) (a b : ℕ) → room_after (room_after o a) b ≡ room_after o (a + b)
@@ -164,21 +169,21 @@ module _ (r : Request) where
     -- one statement more is written
     pub written_more : IsPrinted scope turn statement → IsWritten (suc i) after (joined_changes out now) room_before room_later
     written_more p =
-        let all : texts (far.graphs ++ printed_by p.answer) ≡ texts far.graphs ++ texts (printed_by p.answer) = texts_more far.graphs (printed_by p.answer) in
+        let all : texts r.style (far.graphs ++ printed_by p.answer) ≡ texts r.style far.graphs ++ texts r.style (printed_by p.answer) = texts_more r.style far.graphs (printed_by p.answer) in
         record {
           graphs = far.graphs ++ printed_by p.answer;
           so_far = subst (λ s. IsSoFar (suc i) s (far.graphs ++ printed_by p.answer)) (sym p.stands) (one_more i at far.graphs far.so_far statement there p.answer p.due p.well);
-          told = subst (Gains (joined_changes out now)) (sym all) (gained_both far.graphs (texts (printed_by p.answer)) far.told p.written);
-          room = p.room ∙ (ap (λ o. room_after o (length (texts (printed_by p.answer)))) far.room
-              ∙ (room_both room_before (length (texts far.graphs)) (length (texts (printed_by p.answer)))
-              ∙ ap (room_after room_before) (sym (length-append (texts far.graphs) (texts (printed_by p.answer))) ∙ ap length (sym all))));
+          told = subst (Gains (joined_changes out now)) (sym all) (gained_both far.graphs (texts r.style (printed_by p.answer)) far.told p.written);
+          room = p.room ∙ (ap (λ o. room_after o (length (texts r.style (printed_by p.answer)))) far.room
+              ∙ (room_both room_before (length (texts r.style far.graphs)) (length (texts r.style (printed_by p.answer)))
+              ∙ ap (room_after room_before) (sym (length-append (texts r.style far.graphs) (texts r.style (printed_by p.answer))) ∙ ap length (sym all))));
           calm = omega (arith, far.calm, p.calm, faults);
         }
 
     -- the beginning of a text behind what was written
-    prefix_more : (text : List ℕ) → GainsPrefix now text → GainsPrefix (joined_changes out now) (texts far.graphs ++ text)
+    prefix_more : (text : List ℕ) → GainsPrefix now text → GainsPrefix (joined_changes out now) (texts r.style far.graphs ++ text)
     prefix_more text p =
-        (texts far.graphs ++ p.0, p.1, append_assoc (texts far.graphs) p.0 p.1 ∙ ap (λ t. texts far.graphs ++ t) p.2, gained_both far.graphs p.0 far.told p.3)
+        (texts r.style far.graphs ++ p.0, p.1, append_assoc (texts r.style far.graphs) p.0 p.1 ∙ ap (λ t. texts r.style far.graphs ++ t) p.2, gained_both far.graphs p.0 far.told p.3)
 
     cut : IsCut scope turn statement → RunsSession r (joined_changes out now) (Err Unwritten)
     cut c =
@@ -187,21 +192,21 @@ module _ (r : Request) where
           (
             graphs,
             one_more_begins i at far.graphs far.so_far statement there (says.Prints c.made) c.due tt,
-            subst (GainsPrefix (joined_changes out now)) (sym (texts_more far.graphs (printed_by (says.Prints c.made)))) (prefix_more (texts (printed_by (says.Prints c.made))) c.begun),
+            subst (GainsPrefix (joined_changes out now)) (sym (texts_more r.style far.graphs (printed_by (says.Prints c.made)))) (prefix_more (texts r.style (printed_by (says.Prints c.made))) c.begun),
           ),
         )
       where
         rises : Failed now → Failed (joined_changes out now)
         rises h = omega (arith, h, far.calm, faults)
 
-    still : GainsNothing now → Gains (joined_changes out now) (texts far.graphs)
+    still : GainsNothing now → Gains (joined_changes out now) (texts r.style far.graphs)
     still h = h ∙ (sym taken ∙ far.told)
 
     at_fault : (stop : Stop) → IsAtFault scope r.query.places turn statement stop → EndsAtFault r (joined_changes out now) stop
     at_fault stop f = (far.graphs, f.fault, ends i at far.graphs far.so_far statement there f.fault f.due, f.told, still f.nothing)
 
     wanting : GainsNothing now → WritesBeginning r (joined_changes out now)
-    wanting h = (far.graphs, so_far_begins i at far.graphs far.so_far, (texts far.graphs, [], append-nil (texts far.graphs), still h))
+    wanting h = (far.graphs, so_far_begins i at far.graphs far.so_far, (texts r.style far.graphs, [], append-nil (texts r.style far.graphs), still h))
 
     -- a statement that stops the session
     pub stops : (stop : Stop) → RunsStatement scope r.query.places turn statement (Err stop) → RunsSession r (joined_changes out now) (Err stop)
@@ -215,20 +220,22 @@ module _ (r : Request) where
     stops (Refused refusal file) h = absurd h
     stops (Text refusal) h = absurd h
     stops (Sorts rule place) h = absurd h
+    stops (Certificate refusal) h = absurd h
+    stops (Rejected search rule) h = absurd h
 
   -- a told room that holds the texts of the session holds that of the next statement
   pub room_for : (i : ℕ) (at : Standing) (out : Change) (room_before room_later : Option ℕ) → HoldsTexts room_before r → IsWritten i at out room_before room_later
-      → HoldsPrinted room_later scope at statements i
+      → HoldsPrinted room_later r.style scope at statements i
   room_for i at out room_before room_later holds far = λ most here statement made there due. within room_before most holds (sym far.room ∙ here) statement made there due
     where
-      within : (o : Option ℕ) (most : ℕ) → HoldsTexts o r → room_after o (length (texts far.graphs)) ≡ Some most → (statement : Tree AStatement) (made : Made)
-          → slice_get statements i ≡ Some statement → Answers scope at statement (says.Prints made) → length (texts (printed_by (says.Prints made))) ≤ most
+      within : (o : Option ℕ) (most : ℕ) → HoldsTexts o r → room_after o (length (texts r.style far.graphs)) ≡ Some most → (statement : Tree AStatement) (made : Made)
+          → slice_get statements i ≡ Some statement → Answers scope at statement (says.Prints made) → length (texts r.style (printed_by (says.Prints made))) ≤ most
       within None most h e statement made there due = cc
       within (Some n) most h e statement made there due =
           let graphs = far.graphs ++ printed_by (says.Prints made) in
           let all = h n refl graphs (one_more_begins i at far.graphs far.so_far statement there (says.Prints made) due tt) in
-          let split : length (texts graphs) ≡ length (texts far.graphs) + length (texts (printed_by (says.Prints made))) = ap length (texts_more far.graphs (printed_by (says.Prints made))) ∙ length-append (texts far.graphs) (texts (printed_by (says.Prints made))) in
-          let left : n - length (texts far.graphs) ≡ most = cc in
+          let split : length (texts r.style graphs) ≡ length (texts r.style far.graphs) + length (texts r.style (printed_by (says.Prints made))) = ap length (texts_more r.style far.graphs (printed_by (says.Prints made))) ∙ length-append (texts r.style far.graphs) (texts r.style (printed_by (says.Prints made))) in
+          let left : n - length (texts r.style far.graphs) ≡ most = cc in
           omega (arith, all, split, left)
 
   -- where no statement is left, the session is done

@@ -16,7 +16,8 @@ use Rattle.gcore.specs.Endings.{Change, Gains, GainsPrefix, WritesText}
 use Rattle.gcore.specs.Outcomes.{printed, texts}
 use Rattle.gcore.specs.SessionSteps.{HoldsPrinted, IsPrinted, RunsStatementAt, Turn}
 use Rattle.gcore.specs.declared.stop.Stop.{Stop}
-use Rattle.gcore.specs.declared.stop.Stop.TheVariants.{Usage, Unread, TooLarge, Refused, Text, Sorts, NotBuilt, Faulted, Unwritten, OutOfMemory}
+use Rattle.gcore.specs.declared.stop.Stop.TheVariants.{Usage, Unread, TooLarge, Refused, Text, Sorts, Certificate, Rejected, NotBuilt, Faulted, Unwritten, OutOfMemory}
+use Rattle.gcore.specs.declared.style.Style.{Style}
 use Rattle.gcore.proofs.SessionLaws.{known_nothing, same_room}
 
 -- there is an item at a place within a list
@@ -25,25 +26,25 @@ item_at [] i h = absurd (omega (arith, h))
 item_at (x ∷ xs) zero h = (x, refl)
 item_at (x ∷ xs) (suc i) h = item_at xs i (omega (arith, h))
 
-module _ (s : Scope) (sts : List (Tree AStatement)) (i : ℕ) (before after : NamedGraphs) where
+module _ (s : Scope) (sts : List (Tree AStatement)) (i : ℕ) (before after : NamedGraphs) (style : Style) where
   -- a told room that holds what is printed holds the text of the graph
-  pub printed_room : (room : Option ℕ) (g : PropertyGraph) → i < length sts → IsStepAt s before after sts i (Ok (Some g)) → HoldsPrinted room s (standing before) sts i → HasRoom room (length (printed g))
+  pub printed_room : (room : Option ℕ) (g : PropertyGraph) → i < length sts → IsStepAt s before after sts i (Ok (Some g)) → HoldsPrinted room style s (standing before) sts i → HasRoom room (length (printed style g))
   printed_room room g within step holds = λ x here.
       let item = item_at sts i within in
       let done = step item.0 item.1 in
-      subst (λ (h : PropertyGraph). length (printed h) ≤ x) (sym done.2) (subst (λ t. length t ≤ x) (append-nil (printed done.0.graph)) (holds x here item.0 done.0 item.1 done.1))
+      subst (λ (h : PropertyGraph). length (printed style h) ≤ x) (sym done.2) (subst (λ t. length t ≤ x) (append-nil (printed style done.0.graph)) (holds x here item.0 done.0 item.1 done.1))
 
   module _ (places : List Place) (out : Change) (room_before room_later : Option ℕ) where
     abbrev turn : Turn
-    turn = record { before = standing before; after = standing after; out = out; room_before = room_before; room_later = room_later }
+    turn = record { style = style; before = standing before; after = standing after; out = out; room_before = room_before; room_later = room_later }
 
     -- the text of a graph is all that its statement prints
-    alone : (g h : PropertyGraph) → g ≡ h → printed g ≡ printed h ++ []
-    alone g h e = ap printed e ∙ sym (append-nil (printed h))
+    alone : (g h : PropertyGraph) → g ≡ h → printed style g ≡ printed style h ++ []
+    alone g h e = ap (printed style) e ∙ sym (append-nil (printed style h))
 
     -- a statement whose graph was written
-    pub prints : (g : PropertyGraph) (result : Result (Unit {0}) Stop) → IsStepAt s before after sts i (Ok (Some g)) → WritesText out (printed g) result
-        → OnOk result (room_later ≡ room_after room_before (length (printed g))) → OnOk result (out.faults_after ≡ out.faults_before) → RunsStatementAt s places turn sts i result
+    pub prints : (g : PropertyGraph) (result : Result (Unit {0}) Stop) → IsStepAt s before after sts i (Ok (Some g)) → WritesText out (printed style g) result
+        → OnOk result (room_later ≡ room_after room_before (length (printed style g))) → OnOk result (out.faults_after ≡ out.faults_before) → RunsStatementAt s places turn sts i result
     prints g (Ok done) step w room calm = λ statement there.
         let d = step statement there in
         let text = alone g d.0.graph d.2 in
@@ -66,6 +67,8 @@ module _ (s : Scope) (sts : List (Tree AStatement)) (i : ℕ) (before after : Na
     prints g (Err (Refused refusal file)) step w room calm = absurd w
     prints g (Err (Text refusal)) step w room calm = absurd w
     prints g (Err (Sorts rule place)) step w room calm = absurd w
+    prints g (Err (Certificate refusal)) step w room calm = absurd w
+    prints g (Err (Rejected search rule)) step w room calm = absurd w
     prints g (Err NotBuilt) step w room calm = absurd w
     prints g (Err (Faulted fault)) step w room calm = absurd w
 
@@ -84,7 +87,7 @@ module _ (s : Scope) (sts : List (Tree AStatement)) (i : ℕ) (before after : Na
 
   -- a statement that names a graph writes nothing
   pub names : (places : List Place) (faults : ℕ) (taken : Option (List ℕ)) (room : Option ℕ) → IsStepAt s before after sts i (Ok None)
-      → RunsStatementAt s places (record { before = standing before; after = standing after; out = record { faults_before = faults; faults_after = faults; taken_before = taken; taken_after = taken }; room_before = room; room_later = room }) sts i (Ok tt)
+      → RunsStatementAt s places (record { style = style; before = standing before; after = standing after; out = record { faults_before = faults; faults_after = faults; taken_before = taken; taken_after = taken }; room_before = room; room_later = room }) sts i (Ok tt)
   names places faults taken room step = λ statement there.
       let d = step statement there in
       record {

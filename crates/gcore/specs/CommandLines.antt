@@ -4,7 +4,8 @@ use Rattle.std.specs.Option.{option_map, option_and_then}
 use Rattle.std.specs.Cmp.Lexicographic.{pointwise}
 use Rattle.gc_base.specs.PropertyLists.{is_nil}
 use Rattle.gcore.specs.Pairs.{named_file, pair_of, pairs_of, are_graphs, graphs_in}
-use Rattle.gcore.specs.MakeLines.{kind_of, most_size, number_within}
+use Rattle.gc_make.specs.MadeGraphs.{fits, most_size, most_start}
+use Rattle.gcore.specs.MakeLines.{kind_of, number_within}
 use Rattle.gcore.specs.declared.command.Command.{Command}
 use Rattle.gcore.specs.declared.command.Command.TheVariants.{Run, Cert, Explain, Check, Make}
 use Rattle.gcore.specs.declared.command.CommandRefusal.{CommandRefusal}
@@ -23,12 +24,12 @@ abbrev pub check_of : List (List ℕ) → Option Command
 check_of (document ∷ []) = if is_nil document then None else Some (Check document)
 check_of words = None
 
--- `KIND SIZE START`: the size is at least 1 and at most what the kind allows
-abbrev pub made : MakeKind → List ℕ → List ℕ → Option Command
-made kind size start = option_and_then (λ n. option_map (Make kind n) (number_within 0 2147483647 start)) (number_within 1 (most_size kind) size)
+-- `KIND SIZE START`: the size is at least 1 and at most what the kind allows, and the start is at most the greatest one
+abbrev pub make_within : MakeKind → List ℕ → List ℕ → Option Command
+make_within kind size start = option_and_then (λ n. option_map (Make kind n) (number_within 0 most_start start)) (number_within 1 (most_size kind) size)
 
 abbrev pub make_of_words : List ℕ → List ℕ → List ℕ → Option Command
-make_of_words kind size start = option_and_then (λ k. made k size start) (kind_of kind)
+make_of_words kind size start = option_and_then (λ k. make_within k size start) (kind_of kind)
 
 abbrev pub make_of : List (List ℕ) → Option Command
 make_of (kind ∷ size ∷ start ∷ []) = make_of_words kind size start
@@ -53,13 +54,13 @@ abbrev pub command_of : List (List ℕ) → Option Command
 command_of [] = None
 command_of (verb ∷ words) = form_of verb words
 
--- a command has one to eight graph files, under names that differ, where it has any
-abbrev pub HasGraphs : Command → Type 0
-HasGraphs (Run query pairs) = are_graphs pairs ≡ true
-HasGraphs (Cert query pairs) = are_graphs pairs ≡ true
-HasGraphs (Explain query pairs) = are_graphs pairs ≡ true
-HasGraphs (Check document) = ⊤
-HasGraphs (Make kind size start) = ⊤
+-- a command keeps its limits: it has one to eight graph files, under names that differ, where it has any; and a graph of its size and start is made
+abbrev pub KeepsLimits : Command → Type 0
+KeepsLimits (Run query pairs) = are_graphs pairs ≡ true
+KeepsLimits (Cert query pairs) = are_graphs pairs ≡ true
+KeepsLimits (Explain query pairs) = are_graphs pairs ≡ true
+KeepsLimits (Check document) = ⊤
+KeepsLimits (Make kind size start) = fits kind size start ≡ true
 
 -- what is due, or `Usage` exactly where nothing is; want of memory is free
 abbrev pub Answers : {X : Type 0} → Option X → Result X CommandRefusal → Type 0

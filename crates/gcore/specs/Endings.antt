@@ -4,14 +4,21 @@ use Rattle.std.specs.Option.{ForSome}
 use Rattle.std.specs.Io.KnownBytes.{append_known}
 use Rattle.gc_base.specs.Faults.{Rose}
 use Rattle.gc_base.specs.Files.{Files}
+use Rattle.gc_base.specs.declared.place.MakeKind.{MakeKind}
 use Rattle.gc_base.specs.declared.place.Place.{Place}
 use Rattle.gc_query.specs.declared.fault.Fault.{Fault}
 use Rattle.gc_query.specs.declared.fault.Fault.TheVariants as fault
 use Rattle.gc_spec.specs.PropertyGraph.{PropertyGraph}
+use Rattle.gc_cert_text.specs.declared.refusal.CertRefusal.{CertRefusal}
+use Rattle.gc_check.specs.declared.rule.KRule.{KRule}
+use Rattle.gc_check_text.specs.Outcomes.{IsOutcome}
+use Rattle.gc_check_text.specs.declared.refusal.CheckRefusal.{CheckRefusal}
+use Rattle.gc_check_text.specs.declared.refusal.CheckRefusal.TheVariants as check
+use Rattle.gcore.specs.CertificateLines.{IsHeldCertificate, IsHeldSearch, accepted_line}
 use Rattle.gcore.specs.FaultLines.{IsHeldFault, walk_text}
 use Rattle.gcore.specs.GraphLines.{IsHeld}
 use Rattle.gcore.specs.Lines.{line_of, status_of}
-use Rattle.gcore.specs.Outcomes.{IsAsked, Prints, PrintsFirst, Request, graphs_due, outcome, texts}
+use Rattle.gcore.specs.Outcomes.{Checks, IsAsked, IsToCheck, Prints, PrintsFirst, Request, Runs, Task, graphs_due, make_due, outcome, texts}
 use Rattle.gcore.specs.QueryFiles.{place_at}
 use Rattle.gcore.specs.TextLines.{IsHeldPlace, IsHeldText}
 use Rattle.gcore.specs.declared.command.Command.{Command}
@@ -21,7 +28,7 @@ use Rattle.gcore.specs.declared.placed_fault.PlacedFault.TheVariants.{Undefined,
 use Rattle.gcore.specs.declared.status.Status.{Status}
 use Rattle.gcore.specs.declared.status.Status.TheVariants.{Done}
 use Rattle.gcore.specs.declared.stop.Stop.{Stop}
-use Rattle.gcore.specs.declared.stop.Stop.TheVariants.{Usage, Unread, TooLarge, Refused, Text, Sorts, NotBuilt, Faulted, Unwritten, OutOfMemory}
+use Rattle.gcore.specs.declared.stop.Stop.TheVariants.{Usage, Unread, TooLarge, Refused, Text, Sorts, Certificate, Rejected, NotBuilt, Faulted, Unwritten, OutOfMemory}
 
 -- a sink before and after a call: its count of faults, and what it took, where it tells that
 pub record Change : Type 0 where
@@ -75,20 +82,24 @@ stop_of_fault places (fault.IdsSpent at needed) = Faulted (IdsSpent (place_at pl
 -- a session ends at a fault, and the texts of what it printed before were written
 abbrev pub EndsAtFault : Request → Change → Stop → Type 0
 EndsAtFault r out stop =
-    (graphs : List PropertyGraph) × (fault : Fault) × Prints r graphs (Some fault) × (stop ≡ stop_of_fault r.query.places fault) × Gains out (texts graphs)
+    (graphs : List PropertyGraph) × (fault : Fault) × Prints r graphs (Some fault) × (stop ≡ stop_of_fault r.query.places fault) × Gains out (texts r.style graphs)
 
 -- the beginning of the texts of what the first statements print was written
 abbrev pub WritesBeginning : Request → Change → Type 0
-WritesBeginning r out = (graphs : List PropertyGraph) × PrintsFirst r graphs × GainsPrefix out (texts graphs)
+WritesBeginning r out = (graphs : List PropertyGraph) × PrintsFirst r graphs × GainsPrefix out (texts r.style graphs)
 
 -- the session of a request was run: the texts of what it prints were written; or it ended at a fault; or the output failed, or memory
 -- was wanting, behind the beginning of these texts
 abbrev pub RunsSession : Request → Change → Result (Unit {0}) Stop → Type 0
-RunsSession r out (Ok done) = (graphs : List PropertyGraph) × Prints r graphs None × Gains out (texts graphs)
+RunsSession r out (Ok done) = (graphs : List PropertyGraph) × Prints r graphs None × Gains out (texts r.style graphs)
 RunsSession r out (Err (Faulted fault)) = EndsAtFault r out (Faulted fault)
 RunsSession r out (Err Unwritten) = Failed out × WritesBeginning r out
 RunsSession r out (Err OutOfMemory) = WritesBeginning r out
 RunsSession r out (Err stop) = ⊥
+
+-- the session about a made graph was run
+abbrev pub RunsMade : MakeKind → (size start : ℕ) → Change → Result (Unit {0}) Stop → Type 0
+RunsMade kind size start out result = (r : Request) × (make_due kind size start ≡ Ok r) × RunsSession r out result
 
 -- the folder's count of faults rose in the call
 abbrev pub ReadFault : Call → Type 0
@@ -98,14 +109,24 @@ ReadFault call = Rose call.faults_before call.faults_after
 abbrev pub IsDue : Call → Stop → Type 0
 IsDue call stop = IfSome call.files (λ files. outcome call.command files ≡ Err stop)
 
--- where the files are told, `out` gained nothing, or the beginning of the texts of what the first statements print
+-- a text that may have been written of what a call does: the texts of what the first statements print; or the line of a document that is accepted
+abbrev pub MayBegin : Task → List ℕ → Type 0
+MayBegin (Runs r) text = (graphs : List PropertyGraph) × PrintsFirst r graphs × (text ≡ texts r.style graphs)
+MayBegin (Checks bytes) text = (searches : ℕ) × IsOutcome bytes (Ok searches) × (text ≡ accepted_line searches)
+
+-- where the files are told, `out` gained nothing, or the beginning of such a text
 abbrev pub GainsDuePrefix : Call → Type 0
 GainsDuePrefix call =
-    IfSome call.files (λ files. GainsNothing call.out ⊎ ((r : Request) × IsAsked (outcome call.command files) r × WritesBeginning r call.out))
+    IfSome call.files (λ files. GainsNothing call.out
+    ⊎ ((task : Task) × (text : List ℕ) × (outcome call.command files ≡ Ok task) × MayBegin task text × GainsPrefix call.out text))
 
 -- where the files are told, the session that is asked for ends at the fault of this stop, and its texts before were written
 abbrev pub FaultIsDue : Call → Stop → Type 0
 FaultIsDue call stop = IfSome call.files (λ files. (r : Request) × IsAsked (outcome call.command files) r × EndsAtFault r call.out stop)
+
+-- where the files are told, the document that is to be checked is answered so
+abbrev pub IsCheckedAs : Call → Result ℕ CheckRefusal → Type 0
+IsCheckedAs call answer = IfSome call.files (λ files. (bytes : List ℕ) × IsToCheck (outcome call.command files) bytes × IsOutcome bytes answer)
 
 -- a graph file's turn comes once those before it are accepted
 abbrev pub IsTurnOfGraph : Option Files → List Pair → List ℕ → Type 0
@@ -128,7 +149,7 @@ abbrev pub IsTurnOf : Option Files → Command → List ℕ → Type 0
 IsTurnOf told (Run query pairs) file = IsTurnOfGraph told pairs file ⊎ IsTurnOfQuery told query pairs file
 IsTurnOf told (Cert query pairs) file = ⊥
 IsTurnOf told (Explain query pairs) file = ⊥
-IsTurnOf told (Check document) file = ⊥
+IsTurnOf told (Check document) file = file ≡ document
 IsTurnOf told (Make kind size start) file = ⊥
 
 -- the turn of the query file of a command that reads one comes
@@ -138,6 +159,14 @@ IsTurnOfItsQuery told (Cert query pairs) = ⊥
 IsTurnOfItsQuery told (Explain query pairs) = ⊥
 IsTurnOfItsQuery told (Check document) = ⊥
 IsTurnOfItsQuery told (Make kind size start) = ⊥
+
+-- the turn of the session of a command that runs one comes: with its query file; that of `make` has no file to wait for
+abbrev pub IsTurnOfItsSession : Option Files → Command → Type 0
+IsTurnOfItsSession told (Run query pairs) = IsTurnOfQuery told query pairs query
+IsTurnOfItsSession told (Cert query pairs) = ⊥
+IsTurnOfItsSession told (Explain query pairs) = ⊥
+IsTurnOfItsSession told (Check document) = ⊥
+IsTurnOfItsSession told (Make kind size start) = ⊤
 
 -- the file is one of the command's, and its turn comes
 abbrev pub IsReached : Call → List ℕ → Type 0
@@ -151,13 +180,25 @@ IsReachedGraph call file = IsSomeAnd call.command (λ command. IsTurnOfGraph cal
 abbrev pub IsReachedQuery : Call → Type 0
 IsReachedQuery call = IsSomeAnd call.command (λ command. IsTurnOfItsQuery call.files command)
 
+-- the command runs a session, and its turn comes
+abbrev pub IsReachedSession : Call → Type 0
+IsReachedSession call = IsSomeAnd call.command (λ command. IsTurnOfItsSession call.files command)
+
+-- a command reads a document
+abbrev pub HasDocument : Command → Type 0
+HasDocument (Run query pairs) = ⊥
+HasDocument (Cert query pairs) = ⊥
+HasDocument (Explain query pairs) = ⊥
+HasDocument (Check document) = ⊤
+HasDocument (Make kind size start) = ⊥
+
 -- a command that is not built yet
 abbrev pub IsUnbuilt : Command → Type 0
 IsUnbuilt (Run query pairs) = ⊥
 IsUnbuilt (Cert query pairs) = ⊤
 IsUnbuilt (Explain query pairs) = ⊤
-IsUnbuilt (Check document) = ⊤
-IsUnbuilt (Make kind size start) = ⊤
+IsUnbuilt (Check document) = ⊥
+IsUnbuilt (Make kind size start) = ⊥
 
 -- a file can't be read: where the files are told that is due, or the folder's count rose; else the count rose
 abbrev pub IsUnread : Call → List ℕ → Type 0
@@ -171,16 +212,23 @@ StopsFor call (TooLarge file) = IsReached call file × IsDue call (TooLarge file
 StopsFor call (Refused refusal file) = IsReachedGraph call file × IsDue call (Refused refusal file) × GainsNothing call.out
 StopsFor call (Text refusal) = IsReachedQuery call × IsDue call (Text refusal) × GainsNothing call.out
 StopsFor call (Sorts rule place) = IsReachedQuery call × IsDue call (Sorts rule place) × GainsNothing call.out
+StopsFor call (Certificate refusal) = IsSomeAnd call.command HasDocument × IsCheckedAs call (Err (check.Cert refusal)) × GainsNothing call.out
+StopsFor call (Rejected search rule) = IsSomeAnd call.command HasDocument × IsCheckedAs call (Err (check.Rejected search rule)) × GainsNothing call.out
 StopsFor call NotBuilt = IsSomeAnd call.command IsUnbuilt × IsDue call NotBuilt × GainsNothing call.out
-StopsFor call (Faulted fault) = IsReachedQuery call × FaultIsDue call (Faulted fault)
+StopsFor call (Faulted fault) = IsReachedSession call × FaultIsDue call (Faulted fault)
 StopsFor call Unwritten = IsSome call.command × Failed call.out × GainsDuePrefix call
 StopsFor call OutOfMemory = GainsDuePrefix call
 
--- the call did what is due: where the files are told, `out` gained exactly the texts of the graphs that the session prints
+-- what a call has to do comes to this text: the texts of the graphs that the session prints; or the line of a document that is accepted
+abbrev pub ComesTo : Task → List ℕ → Type 0
+ComesTo (Runs r) text = (graphs : List PropertyGraph) × Prints r graphs None × (text ≡ texts r.style graphs)
+ComesTo (Checks bytes) text = (searches : ℕ) × IsOutcome bytes (Ok searches) × (text ≡ accepted_line searches)
+
+-- the call did what is due: where the files are told, `out` gained exactly the text that this comes to
 abbrev pub Finishes : Call → Type 0
 Finishes call =
     IsSome call.command
-    × IfSome call.files (λ files. (r : Request) × (graphs : List PropertyGraph) × IsAsked (outcome call.command files) r × Prints r graphs None × Gains call.out (texts graphs))
+    × IfSome call.files (λ files. (task : Task) × (text : List ℕ) × (outcome call.command files ≡ Ok task) × ComesTo task text × Gains call.out text)
 
 -- a call finishes, or stops for a cause
 abbrev pub Answers : Call → Result (Unit {0}) Stop → Type 0
@@ -198,13 +246,13 @@ abbrev pub graph_files : Option Command → List (List ℕ)
 graph_files None = []
 graph_files (Some command) = map (λ (p : Pair). p.file) (graphs_of command)
 
--- the files that a command reads: the query file and the graph files
+-- the files that a command reads: the query file and the graph files, or the document
 abbrev pub named_files : Option Command → List (List ℕ)
 named_files None = []
 named_files (Some (Run query pairs)) = query ∷ map (λ (p : Pair). p.file) pairs
 named_files (Some (Cert query pairs)) = []
 named_files (Some (Explain query pairs)) = []
-named_files (Some (Check document)) = []
+named_files (Some (Check document)) = document ∷ []
 named_files (Some (Make kind size start)) = []
 
 -- a command reads a query file
@@ -214,6 +262,14 @@ HasQuery (Cert query pairs) = ⊥
 HasQuery (Explain query pairs) = ⊥
 HasQuery (Check document) = ⊥
 HasQuery (Make kind size start) = ⊥
+
+-- a command runs a session
+abbrev pub HasSession : Command → Type 0
+HasSession (Run query pairs) = ⊤
+HasSession (Cert query pairs) = ⊥
+HasSession (Explain query pairs) = ⊥
+HasSession (Check document) = ⊥
+HasSession (Make kind size start) = ⊤
 
 -- where the files are told, the session that is asked for ends at the fault of a stop
 abbrev pub EndsAt : Option Files → Option Command → Stop → Type 0
@@ -228,18 +284,24 @@ MayStop told command (TooLarge file) = Contains (named_files command) file
 MayStop told command (Refused refusal file) = Contains (graph_files command) file × IsHeld refusal
 MayStop told command (Text refusal) = IsSomeAnd command HasQuery × IsHeldText refusal
 MayStop told command (Sorts rule place) = IsSomeAnd command HasQuery × IsHeldPlace place
-MayStop told command (Faulted fault) = IsSomeAnd command HasQuery × IsHeldFault fault × EndsAt told command (Faulted fault)
+MayStop told command (Certificate refusal) = IsSomeAnd command HasDocument × IsHeldCertificate refusal
+MayStop told command (Rejected search rule) = IsSomeAnd command HasDocument × IsHeldSearch search
+MayStop told command (Faulted fault) = IsSomeAnd command HasSession × IsHeldFault fault × EndsAt told command (Faulted fault)
 MayStop told command stop = ⊤
 
 -- a told room holds the texts of whatever first statements print
 abbrev pub HoldsTexts : Option ℕ → Request → Type 0
-HoldsTexts room r = ForSome room (λ most. (graphs : List PropertyGraph) → PrintsFirst r graphs → length (texts graphs) ≤ most)
+HoldsTexts room r = ForSome room (λ most. (graphs : List PropertyGraph) → PrintsFirst r graphs → length (texts r.style graphs) ≤ most)
 
--- the same of the session that is asked for, for which the files have to be told
+-- the same of the session about a made graph
+abbrev pub HoldsMade : Option ℕ → MakeKind → (size start : ℕ) → Type 0
+HoldsMade room kind size start = (r : Request) → make_due kind size start ≡ Ok r → HoldsTexts room r
+
+-- the same of what a call has to do, for which the files have to be told
 abbrev pub HoldsText : Option ℕ → Option Files → Option Command → Type 0
 HoldsText room told command =
-    ForSome room (λ most. IsSomeAnd told (λ files. (r : Request) (graphs : List PropertyGraph)
-    → IsAsked (outcome command files) r → PrintsFirst r graphs → length (texts graphs) ≤ most))
+    ForSome room (λ most. IsSomeAnd told (λ files. (task : Task) (text : List ℕ)
+    → outcome command files ≡ Ok task → MayBegin task text → length text ≤ most))
 
 -- a told room of `err` holds each line that may be due. The line of a bad cost is as long as its walk, so where a command runs a query
 -- and its files are not told, no told room does

@@ -2,6 +2,7 @@
 use Rattle.std.specs.Prelude.{◌≡◌, ℕ, List, [], length, map, Option, Some, Result, Ok, Err, IfSome, MatchOption, ⊤, ◌⊎◌}
 use Rattle.gc_base.specs.Faults.{Rose}
 use Rattle.gc_catalog.specs.NamedGraphs.{NamedGraphs}
+use Rattle.gcore.specs.CertificateLines.{IsHeldCertificate, IsHeldSearch}
 use Rattle.gcore.specs.Endings.{IsTurnOfGraph}
 use Rattle.gcore.specs.FaultLines.{IsHeldFault}
 use Rattle.gcore.specs.GraphLines.{IsHeld}
@@ -10,7 +11,7 @@ use Rattle.gcore.specs.TextLines.{IsHeldPlace, IsHeldText}
 use Rattle.gcore.specs.Steps.{Reading}
 use Rattle.gcore.specs.declared.pair.Pair.{Pair}
 use Rattle.gcore.specs.declared.stop.Stop.{Stop}
-use Rattle.gcore.specs.declared.stop.Stop.TheVariants.{Usage, Unread, TooLarge, Refused, Text, Sorts, NotBuilt, Faulted, Unwritten, OutOfMemory}
+use Rattle.gcore.specs.declared.stop.Stop.TheVariants.{Usage, Unread, TooLarge, Refused, Text, Sorts, Certificate, Rejected, NotBuilt, Faulted, Unwritten, OutOfMemory}
 
 -- where the files are told, this stop is due
 abbrev pub IsDueFor : Reading → List Pair → Stop → Type 0
@@ -26,6 +27,8 @@ StopsReadingGraphs reading pairs (TooLarge file) = IsTurnOfGraph reading.files p
 StopsReadingGraphs reading pairs (Refused refusal file) = IsTurnOfGraph reading.files pairs file × IsDueFor reading pairs (Refused refusal file)
 StopsReadingGraphs reading pairs (Text refusal) = ⊥
 StopsReadingGraphs reading pairs (Sorts rule place) = ⊥
+StopsReadingGraphs reading pairs (Certificate refusal) = ⊥
+StopsReadingGraphs reading pairs (Rejected search rule) = ⊥
 StopsReadingGraphs reading pairs NotBuilt = ⊥
 StopsReadingGraphs reading pairs (Faulted fault) = ⊥
 StopsReadingGraphs reading pairs Unwritten = ⊥
@@ -47,5 +50,7 @@ abbrev pub IsHeldStop : Stop → Type 0
 IsHeldStop (Refused refusal file) = IsHeld refusal
 IsHeldStop (Text refusal) = IsHeldText refusal
 IsHeldStop (Sorts rule place) = IsHeldPlace place
+IsHeldStop (Certificate refusal) = IsHeldCertificate refusal
+IsHeldStop (Rejected search rule) = IsHeldSearch search
 IsHeldStop (Faulted fault) = IsHeldFault fault
 IsHeldStop stop = ⊤

@@ -1,3 +1,4 @@
+pub mod CertificateLines
 pub mod CommandLines
 pub mod Endings
 pub mod FaultLines
@@ -5,10 +6,12 @@ pub mod GraphLines
 pub mod GraphSteps
 pub mod Lines
 pub mod MakeLines
+pub mod MakeQueries
 pub mod Outcomes
 pub mod Pairs
 pub mod QueryFiles
 pub mod SessionSteps
 pub mod SortLines
 pub mod Steps
+pub mod Summaries
 pub mod TextLines

@@ -10,11 +10,6 @@ use Rattle.gc_base.specs.declared.place.MakeKind.TheVariants.{Ring, Random}
 abbrev pub kind_of : List ℕ → Option MakeKind
 kind_of word = if pointwise nat_eq word (codes "ring") then Some Ring else (if pointwise nat_eq word (codes "random") then Some Random else None)
 
--- how many nodes a graph of the kind may have
-abbrev pub most_size : MakeKind → ℕ
-most_size Ring = 2000
-most_size Random = 32768
-
 -- one to ten decimal digits
 abbrev pub is_number : List ℕ → Bool
 is_number word = (nat_lt 0 (length word) && nat_le (length word) 10) && all_ascii_digits word

@@ -2,6 +2,7 @@
 use Rattle.std.specs.Prelude.{◌≡◌, ℕ, List, [], ◌∷◌, ◌++◌, fold, length, map, max, nat_lt, if◌then◌else◌, Some, None, Option, Result, Ok, Err}
 use Rattle.std.specs.List.{flat_map}
 use Rattle.gc_base.specs.Files.{Files, file_of}
+use Rattle.gc_base.specs.declared.place.MakeKind.{MakeKind}
 use Rattle.gc_spec.specs.Coherence.{shapes_of}
 use Rattle.gc_spec.specs.PropertyGraph.{PropertyGraph}
 use Rattle.gc_json.specs.CanonicalText.{canonical_text}
@@ -9,11 +10,14 @@ use Rattle.gc_json.specs.FileElements.{Seen}
 use Rattle.gc_json.specs.GraphFiles.{file_graph}
 use Rattle.gc_json.specs.declared.refusal.GraphRefusal.{GraphRefusal}
 use Rattle.gc_lower.specs.Namings.{scope_in}
+use Rattle.gc_make.specs.MadeGraphs.{made}
 use Rattle.gc_ppg.specs.FreeIds.{first_free}
 use Rattle.gc_query.specs.Sessions.{Session, Begins}
 use Rattle.gc_query.specs.Standings.{Standing}
 use Rattle.gc_query.specs.declared.fault.Fault.{Fault}
+use Rattle.gcore.specs.MakeQueries.{made_name, make_query}
 use Rattle.gcore.specs.QueryFiles.{PlacedFile, query_file_of}
+use Rattle.gcore.specs.Summaries.{summary}
 use Rattle.gcore.specs.declared.command.Command.{Command}
 use Rattle.gcore.specs.declared.command.Command.TheVariants.{Run, Cert, Explain, Check, Make}
 use Rattle.gcore.specs.declared.command.CommandRefusal.{CommandRefusal}
@@ -21,6 +25,8 @@ use Rattle.gcore.specs.declared.command.CommandRefusal.TheVariants as refusal
 use Rattle.gcore.specs.declared.pair.Pair.{Pair}
 use Rattle.gcore.specs.declared.stop.Stop.{Stop}
 use Rattle.gcore.specs.declared.stop.Stop.TheVariants.{Usage, Unread, TooLarge, Refused, NotBuilt, OutOfMemory}
+use Rattle.gcore.specs.declared.style.Style.{Style}
+use Rattle.gcore.specs.declared.style.Style.TheVariants.{Text, Summary}
 
 -- how many bytes a graph file may have, and a query file
 abbrev pub graph_limit : ℕ
@@ -28,6 +34,10 @@ graph_limit = 33554432
 
 abbrev pub query_limit : ℕ
 query_limit = 1048576
+
+-- a document may have as many as a graph file
+abbrev pub document_limit : ℕ
+document_limit = graph_limit
 
 -- one thing after another: the first stop is due
 abbrev pub then_due : {A B : Type 0} → Result A Stop → (A → Result B Stop) → Result B Stop
@@ -65,13 +75,15 @@ query_file_due graphs files name = then_due (file_due files name query_limit) (q
 abbrev pub graph_names : List Pair → List (List ℕ)
 graph_names pairs = map (λ (p : Pair). p.name) pairs
 
--- what a run is asked: the graphs, and the query file
+-- what a session is asked: the graphs, the query file, and how its graphs are written
 pub record Request : Type 0 where
   pub graphs : List PropertyGraph
   pub query : PlacedFile
+  pub style : Style
 
+-- a run writes the graphs as their texts
 abbrev pub request : List PropertyGraph → PlacedFile → Result Request Stop
-request graphs query = Ok (record { graphs = graphs; query = query })
+request graphs query = Ok (record { graphs = graphs; query = query; style = Text })
 
 -- the first identity above all of some graphs, or 0 where they have no element
 abbrev pub free_above : List PropertyGraph → ℕ
@@ -90,38 +102,66 @@ abbrev pub PrintsFirst : Request → List PropertyGraph → Type 0
 PrintsFirst r graphs = Begins (scope_in r.query.file 0) (beginning r.graphs) r.query.file.statements graphs
 
 -- the text of a graph, and a line feed
-unfoldable pub printed : PropertyGraph → List ℕ
-printed g = canonical_text g ++ 10 ∷ []
+unfoldable pub graph_text : PropertyGraph → List ℕ
+graph_text g = canonical_text g ++ 10 ∷ []
 
--- the texts of graphs, one after another
-abbrev pub texts : List PropertyGraph → List ℕ
-texts graphs = flat_map printed graphs
+-- a graph as it is written: its text, or the line that tells of it as an answer
+abbrev pub printed : Style → PropertyGraph → List ℕ
+printed Text g = graph_text g
+printed (Summary nodes edges) g = summary nodes edges g
+
+-- graphs as they are written, one after another
+abbrev pub texts : Style → List PropertyGraph → List ℕ
+texts style graphs = flat_map (printed style) graphs
 
 -- first the graph files, then the query file
 abbrev pub run_due : Files → List ℕ → List Pair → Result Request Stop
 run_due files query pairs =
     then_due (graphs_due files [] pairs) (λ gs. then_due (query_file_due (graph_names pairs) files query) (request gs))
 
--- what a command is asked; those that are not built yet stop directly
-abbrev pub command_due : Files → Command → Result Request Stop
-command_due files (Run query pairs) = run_due files query pairs
+-- the session about a made graph: the graph alone, under its name, the query that is asked of it, and a line that tells of its answer
+abbrev pub make_request : PropertyGraph → PlacedFile → Result Request Stop
+make_request g query = Ok (record { graphs = g ∷ []; query = query; style = Summary (length g.nodes) (length g.edges) })
+
+abbrev pub make_due : MakeKind → (size start : ℕ) → Result Request Stop
+make_due kind size start = then_due (query_file_of (made_name ∷ []) make_query) (make_request (made kind size start))
+
+-- what a call has to do: to run a session, or to check the bytes of a document
+pub data Task : Type 0 where
+  Runs : Request → Task
+  Checks : List ℕ → Task
+
+-- a session as what is due
+abbrev pub session_due : Result Request Stop → Result Task Stop
+session_due due = then_due due (λ r. Ok (Runs r))
+
+-- the document that is checked
+abbrev pub check_due : Files → List ℕ → Result Task Stop
+check_due files document = then_due (file_due files document document_limit) (λ bytes. Ok (Checks bytes))
+
+-- what a command has to do; those that are not built yet stop directly
+abbrev pub command_due : Files → Command → Result Task Stop
+command_due files (Run query pairs) = session_due (run_due files query pairs)
 command_due files (Cert query pairs) = Err NotBuilt
 command_due files (Explain query pairs) = Err NotBuilt
-command_due files (Check document) = Err NotBuilt
-command_due files (Make kind size start) = Err NotBuilt
+command_due files (Check document) = check_due files document
+command_due files (Make kind size start) = session_due (make_due kind size start)
 
 -- words that are no command are a usage fault
 abbrev pub form_due : Option Command → Result Command Stop
 form_due None = Err Usage
 form_due (Some command) = Ok command
 
--- the outcome of a call, what it is asked or the stop that is due, by the command that its words are, if any
-abbrev pub outcome : Option Command → Files → Result Request Stop
+-- the outcome of a call, what it has to do or the stop that is due, by the command that its words are, if any
+abbrev pub outcome : Option Command → Files → Result Task Stop
 outcome command files = then_due (form_due command) (command_due files)
 
--- a call is asked for the session of a request
-abbrev pub IsAsked : Result Request Stop → Request → Type 0
-IsAsked due r = due ≡ Ok r
+-- a call is asked for the session of a request, and for the check of these bytes
+abbrev pub IsAsked : Result Task Stop → Request → Type 0
+IsAsked due r = due ≡ Ok (Runs r)
+
+abbrev pub IsToCheck : Result Task Stop → List ℕ → Type 0
+IsToCheck due bytes = due ≡ Ok (Checks bytes)
 
 -- why there is no command, as a stop
 abbrev pub stop_of_command : CommandRefusal → Stop

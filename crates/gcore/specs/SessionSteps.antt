@@ -12,9 +12,11 @@ use Rattle.gcore.specs.Endings.{Change, Failed, Gains, GainsNothing, GainsPrefix
 use Rattle.gcore.specs.Outcomes.{texts}
 use Rattle.gcore.specs.declared.stop.Stop.{Stop}
 use Rattle.gcore.specs.declared.stop.Stop.TheVariants.{Faulted, Unwritten, OutOfMemory}
+use Rattle.gcore.specs.declared.style.Style.{Style}
 
--- where a statement stands, and what it does to the output: what stands before and behind it, and the told room then
+-- where a statement stands, how its graph is written, and what it does to the output: what stands before and behind it, and the told room then
 pub record Turn : Type 0 where
+  pub style : Style
   pub before : Standing
   pub after : Standing
   pub out : Change
@@ -33,8 +35,8 @@ pub record IsPrinted (s : Scope) (t : Turn) (statement : Tree AStatement) : Type
   pub due : Answers s t.before statement answer
   pub well : GoesWell answer
   pub stands : t.after ≡ behind t.before answer
-  pub written : Gains t.out (texts (printed_by answer))
-  pub room : t.room_later ≡ room_after t.room_before (length (texts (printed_by answer)))
+  pub written : Gains t.out (texts t.style (printed_by answer))
+  pub room : t.room_later ≡ room_after t.room_before (length (texts t.style (printed_by answer)))
   pub calm : t.out.faults_before ≤ t.out.faults_after
 
 -- a statement printed a graph, of whose text the beginning was written before the output failed
@@ -42,7 +44,7 @@ pub record IsCut (s : Scope) (t : Turn) (statement : Tree AStatement) : Type 0 w
   pub made : Made
   pub due : Answers s t.before statement (Prints made)
   pub failed : Failed t.out
-  pub begun : GainsPrefix t.out (texts (printed_by (Prints made)))
+  pub begun : GainsPrefix t.out (texts t.style (printed_by (Prints made)))
 
 -- a statement had the fault of a stop
 pub record IsAtFault (s : Scope) (places : List Place) (t : Turn) (statement : Tree AStatement) (stop : Stop) : Type 0 where
@@ -64,7 +66,7 @@ abbrev pub RunsStatementAt : Scope → List Place → Turn → List (Tree AState
 RunsStatementAt s places t statements i result = (statement : Tree AStatement) → slice_get statements i ≡ Some statement → RunsStatement s places t statement result
 
 -- a told room holds the text of what the statement of a number prints
-abbrev pub HoldsPrinted : Option ℕ → Scope → Standing → List (Tree AStatement) → ℕ → Type 0
-HoldsPrinted room s at statements i =
+abbrev pub HoldsPrinted : Option ℕ → Style → Scope → Standing → List (Tree AStatement) → ℕ → Type 0
+HoldsPrinted room style s at statements i =
     ForSome room (λ most. (statement : Tree AStatement) (made : Made) → slice_get statements i ≡ Some statement → Answers s at statement (Prints made)
-    → length (texts (printed_by (Prints made))) ≤ most)
+    → length (texts style (printed_by (Prints made))) ≤ most)

@@ -1,22 +1,26 @@
 ghost use Rattle.std.specs.Prelude.{◌≡◌, true, Some};
 ghost use Rattle.gcore.specs.Pairs.{are_graphs};
-ghost use Rattle.gcore.specs.CommandLines.{HasGraphs};
+ghost use Rattle.gcore.specs.CommandLines.{KeepsLimits};
 ghost use Rattle.gcore.specs.Endings.{Answers, Call, Change, HoldsText};
 ghost use Rattle.gcore.specs.declared.command.Command.TheVariants.{Run};
 
+use crate::checking::run_check;
 use crate::command::Command;
 use crate::graphs::read_graphs;
 use crate::inputs::read_query;
+use crate::made::run_make;
 use crate::pair::{Pair, names_of};
 use crate::session::run_session;
 use crate::stop::Stop;
+use crate::style::Style;
 use gc_base::{Steps, Str};
 use gc_io::{Folder, Sink};
 use std::alloc::Global;
 use std::mem::ManuallyDrop;
 use std::sync::ledger::Ledger;
 
-/// Runs a command: its graph files are read first, then the query file, then the answer is written.
+/// Runs a command: its graph files are read first, then the query file, then the answer is written. `check` reads a
+/// document alone, and `make` no file.
 /// A command that is not built yet stops directly.
 pub fn run<F: Folder, S: Sink, L: Ledger>(
     alloc: Global,
@@ -25,7 +29,7 @@ pub fn run<F: Folder, S: Sink, L: Ledger>(
     out: &mut S,
     steps: &mut Steps<L>,
 ) -> Result<(), Stop>
-    requires graphs { HasGraphs command.now }
+    requires limits { KeepsLimits command.now }
     requires room { HoldsText (S.room out.old) (F.files folder.old) (Some command.now) }
     ensures outcome { Answers (record {
       command = Some command.now;
@@ -53,12 +57,8 @@ pub fn run<F: Folder, S: Sink, L: Ledger>(
             query: _,
             graphs: _,
         } => Err(Stop::NotBuilt),
-        Command::Check { document: _ } => Err(Stop::NotBuilt),
-        Command::Make {
-            kind: _,
-            size: _,
-            start: _,
-        } => Err(Stop::NotBuilt),
+        Command::Check { document } => run_check(alloc, document, folder, out, steps),
+        Command::Make { kind, size, start } => { run_make(alloc, *kind, *size, *start, out, steps) }
     }
 }
 
@@ -89,7 +89,7 @@ fn run_query<F: Folder, S: Sink, L: Ledger>(
     let mut catalog = read_graphs(alloc, folder, pairs)?;
     let names = names_of(alloc, pairs)?;
     let checked = read_query(alloc, folder, query, &names)?;
-    let written = run_session(alloc, &checked, &mut catalog, out, steps);
+    let written = run_session(alloc, &checked, &mut catalog, Style::Text, out, steps);
     // The program ends with the answer, and the system takes the memory of the graphs back whole.
     let _kept = ManuallyDrop::new(catalog);
     written

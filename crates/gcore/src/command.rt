@@ -1,5 +1,5 @@
 ghost use Rattle.std.specs.Prelude.{◌≡◌, ◌∷◌, map, string_bytes, IfOk};
-ghost use Rattle.gcore.specs.CommandLines.{HasGraphs, IsCommand, IsForm, IsSession, IsCheck};
+ghost use Rattle.gcore.specs.CommandLines.{KeepsLimits, IsCommand, IsForm, IsSession, IsCheck};
 
 use crate::make::make_of;
 use crate::pair::{PairList, graphs_of};
@@ -61,7 +61,7 @@ impl Command {
     /// of the forms.
     pub fn of(alloc: Global, words: &[String]) -> Result<Command, CommandRefusal>
         ensures command { IsCommand (map string_bytes words.now) result }
-        ensures graphs { IfOk result HasGraphs }
+        ensures limits { IfOk result KeepsLimits }
     {
         match words.split_first() {
             None => Err(CommandRefusal::Usage),

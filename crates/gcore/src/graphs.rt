@@ -39,8 +39,8 @@ pub fn read_graphs<F: Folder>(
     Ok(catalog)
 }
 
-// Puts a loaded graph into a catalog, under a name that is not there.
-fn add_loaded(catalog: &mut Catalog, name: &Name, graph: Graph) -> Result<(), Memory>
+/// Puts a graph that is loaded or made into a catalog, under a name that is not there.
+pub fn add_loaded(catalog: &mut Catalog, name: &Name, graph: Graph) -> Result<(), Memory>
     requires coherent { AllByRecursion (λ h. AreCoherent h graph) catalog.old.graphs }
     requires fresh { number_of catalog.old.names name.now ≡ None }
     ensures graphs { OnOk result (catalog.new.graphs ≡ catalog.old.graphs ++ graph ∷ []) }

@@ -18,6 +18,9 @@ use std::alloc::Global;
 /// How many bytes a graph file may have.
 const GRAPH_LIMIT: u64 = 33_554_432;
 
+/// How many bytes a document may have.
+pub const DOCUMENT_LIMIT: u64 = GRAPH_LIMIT;
+
 /// How many bytes a query file may have.
 const QUERY_LIMIT: u64 = 1_048_576;
 
@@ -67,8 +70,8 @@ pub fn read_query<F: Folder>(
     query_file(alloc, bytes.as_slice(), graphs)
 }
 
-// A file of at most `limit` bytes.
-fn read_file<F: Folder>(
+/// A file of at most `limit` bytes.
+pub fn read_file<F: Folder>(
     alloc: Global,
     folder: &mut F,
     name: &Str,

@@ -1,12 +1,10 @@
 ghost use Rattle.std.specs.Prelude.{◌≡◌, map, string_bytes};
 ghost use Rattle.std.specs.Str.{all_ascii_digits};
-ghost use Rattle.gcore.specs.MakeLines.{most_size, kind_of, number_within, number_of, within, is_number};
+ghost use Rattle.gcore.specs.MakeLines.{kind_of, number_within, number_of, within, is_number};
 
 use crate::command::{Command, CommandRefusal};
 use gc_base::MakeKind;
-
-/// The greatest start of the generator.
-const MOST_START: u32 = 2_147_483_647;
+use gc_make::{MOST_START, most_size};
 
 // The kind of a word.
 fn kind_of(word: &str) -> Option<MakeKind>
@@ -18,16 +16,6 @@ fn kind_of(word: &str) -> Option<MakeKind>
         Some(MakeKind::Random)
     } else {
         None
-    }
-}
-
-// How many nodes a graph of a kind may have.
-fn most_size(kind: MakeKind) -> u32
-    ensures { result ≡ most_size kind }
-{
-    match kind {
-        MakeKind::Ring => 2_000,
-        MakeKind::Random => 32_768,
     }
 }
 

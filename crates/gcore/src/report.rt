@@ -7,6 +7,7 @@ ghost use Rattle.gcore.specs.FaultLines.{told_text, why_text};
 ghost use Rattle.gcore.specs.SortLines.{rule_text};
 ghost use Rattle.gcore.specs.Endings.{Change, Tells};
 
+use crate::certificate_lines::{tell_certificate, tell_rejected};
 use crate::placed_fault::PlacedFault;
 use crate::stop::Stop;
 use crate::text_refusal::TextRefusal;
@@ -34,6 +35,8 @@ pub fn tell<T: Sink>(stop: &Stop, err: &mut T)
         Stop::Refused(refusal, file) => tell_refusal(err, refusal, file.text().as_bytes()),
         Stop::Text(refusal) => tell_text(err, *refusal),
         Stop::Sorts(rule, place) => tell_sorts(err, *rule, *place),
+        Stop::Certificate(refusal) => tell_certificate(err, *refusal),
+        Stop::Rejected(search, rule) => tell_rejected(err, *search, *rule),
         Stop::NotBuilt => tell_line(err, b"not built", b""),
         Stop::Faulted(fault) => tell_fault(err, fault),
         Stop::Unwritten => tell_line(err, b"cannot write", b""),
@@ -42,7 +45,7 @@ pub fn tell<T: Sink>(stop: &Stop, err: &mut T)
 }
 
 // The line of a message and a file's word, of which the second may be empty.
-fn tell_line<T: Sink>(err: &mut T, message: &[u8], file: &[u8])
+pub(crate) fn tell_line<T: Sink>(err: &mut T, message: &[u8], file: &[u8])
     requires { HasRoom (T.room err.old) (length (line (message.now ++ file.now))) }
     ensures { Tells (record {
       faults_before = T.faults err.old;
@@ -360,7 +363,7 @@ fn tell_counted<T: Sink>(
     );
 }
 
-fn tell_pieces<T: Sink>(err: &mut T, pieces: &[&[u8]])
+pub(crate) fn tell_pieces<T: Sink>(err: &mut T, pieces: &[&[u8]])
     requires { HasRoom (T.room err.old) (length (joined pieces.now)) }
     ensures { Tells (record {
       faults_before = T.faults err.old;

@@ -22,6 +22,8 @@ pub enum Status {
     Write = 7,
     /// Want of memory.
     Memory = 8,
+    /// A document is no certificate, or a search of it breaks a rule.
+    Rejected = 9,
     /// A named file is larger than its limit.
     Size = 10,
     /// What is asked for is not built yet.

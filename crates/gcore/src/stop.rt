@@ -1,4 +1,5 @@
 ghost use Rattle.std.specs.Prelude.{◌≡◌};
+ghost use Rattle.gcore.specs.CertificateLines.{IsHeldCertificate};
 ghost use Rattle.gcore.specs.GraphLines.{IsHeld, IsHeldSpot};
 ghost use Rattle.gcore.specs.Lines.{line_of, status_of};
 ghost use Rattle.gcore.specs.TextLines.{IsHeldText, IsHeldPlace};
@@ -8,6 +9,8 @@ use crate::placed_fault::{PlacedFault, known_place};
 use crate::status::Status;
 use crate::text_refusal::TextRefusal;
 use gc_base::{Memory, Place, Str};
+use gc_cert_text::CertRefusal;
+use gc_check::KRule;
 use gc_io::SinkFault;
 use gc_json::{GraphRefusal, Spot};
 use gc_lex::LexRefusal;
@@ -28,6 +31,10 @@ pub enum Stop {
     Text(TextRefusal),
     /// The query file breaks a sort rule at a place.
     Sorts(SortRule, Place),
+    /// A document is no certificate.
+    Certificate(CertRefusal),
+    /// A search of a certificate, by its number from 0, breaks a rule.
+    Rejected(u32, KRule),
     /// What is asked for is not built yet.
     NotBuilt,
     /// A statement has a fault.
@@ -50,6 +57,8 @@ impl Stop {
             Stop::Refused(_, _) => Status::Graph,
             Stop::Text(_) => Status::Text,
             Stop::Sorts(_, _) => Status::Sorts,
+            Stop::Certificate(_) => Status::Rejected,
+            Stop::Rejected(_, _) => Status::Rejected,
             Stop::NotBuilt => Status::NotBuilt,
             Stop::Faulted(_) => Status::Fault,
             Stop::Unwritten => Status::Write,
@@ -69,6 +78,10 @@ impl Stop {
             Stop::Refused(refusal, _) => known_refusal(refusal),
             Stop::Text(refusal) => known_text(*refusal),
             Stop::Sorts(_, place) => known_place(*place),
+            Stop::Certificate(refusal) => known_certificate(*refusal),
+            Stop::Rejected(search, _) => {
+                let _search = *search;
+            }
             Stop::Faulted(fault) => fault.known(),
             _ => {}
         }
@@ -116,6 +129,29 @@ fn known_text(refusal: TextRefusal)
         TextRefusal::NumberTooLarge(place) => known_place(place),
         TextRefusal::TooDeep(place) => known_place(place),
         TextRefusal::Syntax(place) => known_place(place),
+    }
+}
+
+// That a refusal of a document is as the machine holds it, for a proof.
+fn known_certificate(refusal: CertRefusal)
+    ensures { IsHeldCertificate refusal }
+{
+    match refusal {
+        CertRefusal::NotJson => {}
+        CertRefusal::WrongShape => {}
+        CertRefusal::BadGraph(search) => {
+            let _search = search;
+        }
+        CertRefusal::BadExpression(search) => {
+            let _search = search;
+        }
+        CertRefusal::BadSegment(search) => {
+            let _search = search;
+        }
+        CertRefusal::BadNumber(search) => {
+            let _search = search;
+        }
+        CertRefusal::Memory => {}
     }
 }
 

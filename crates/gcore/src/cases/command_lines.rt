@@ -1,4 +1,4 @@
-// Words of no form, files that can't be read or are too large, what is not built yet, and the first queries.
+// Words of no form, files that can't be read or are too large, and the first queries.
 use super::first_failing;
 use std::test::Fail;
 
@@ -163,14 +163,6 @@ $ check c d
 certificate-without-graph-refused
 $ cert q
 = 2 gcore: usage
-
-make-of-the-greatest-ring-not-built
-$ make ring 2000 0
-= 11 gcore: not built
-
-make-of-the-greatest-random-graph-not-built
-$ make random 0000032768 2147483647
-= 11 gcore: not built
 "##;
 
 #[test]

@@ -1,13 +1,8 @@
-// Graph files that are read, and those that break a rule.
+// Graph files that are read, those that break a rule, and commands that are not built yet.
 use super::first_failing;
 use std::test::Fail;
 
 const CASES: &str = r##"
-check-not-built
-$ check c
-c: {}
-= 11 gcore: not built
-
 cert-not-built
 $ cert q g=a
 a: «labels»
@@ -18,10 +13,6 @@ explain-not-built
 $ explain q g=a
 a: «labels»
 q: CONSTRUCT (v) MATCH (v:Person)
-= 11 gcore: not built
-
-make-not-built
-$ make ring 5 0
 = 11 gcore: not built
 
 absent-label-on-sample

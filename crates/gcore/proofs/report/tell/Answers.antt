@@ -3,7 +3,7 @@ use Rattle.std.specs.Prelude.{codes}
 use Rattle.gcore.specs.Lines.{line, line_of}
 use Rattle.gcore.specs.Endings.{Change, Tells}
 use Rattle.gcore.specs.declared.stop.Stop.{Stop}
-use Rattle.gcore.specs.declared.stop.Stop.TheVariants.{Unread, TooLarge, Text, Sorts, NotBuilt, Faulted, Unwritten, OutOfMemory}
+use Rattle.gcore.specs.declared.stop.Stop.TheVariants.{Unread, TooLarge, Text, Sorts, Certificate, Rejected, NotBuilt, Faulted, Unwritten, OutOfMemory}
 use Rattle.gcore.proofs.report.tell.Goals as goal
 
 -- the line of a stop
@@ -28,6 +28,12 @@ returns-in-Text g c = told _ c.args.stop.now (Text c.in-Text.refusal) c.in-Text.
 
 pub returns-in-Sorts : goal.returns-in-Sorts
 returns-in-Sorts g c = told _ c.args.stop.now (Sorts c.in-Sorts.rule c.in-Sorts.place) c.in-Sorts.is c.tell_sorts.ensures
+
+pub returns-in-Certificate : goal.returns-in-Certificate
+returns-in-Certificate g c = told _ c.args.stop.now (Certificate c.in-Certificate.refusal) c.in-Certificate.is c.tell_certificate.ensures
+
+pub returns-in-Rejected : goal.returns-in-Rejected
+returns-in-Rejected g c = told _ c.args.stop.now (Rejected c.in-Rejected.search c.in-Rejected.rule) c.in-Rejected.is c.tell_rejected.ensures
 
 pub returns-in-NotBuilt : goal.returns-in-NotBuilt
 returns-in-NotBuilt g c = told _ c.args.stop.now NotBuilt c.in-NotBuilt.is c.tell_line-in-NotBuilt.ensures

@@ -13,7 +13,7 @@ use Rattle.gcore.proofs.session.run_session.Goals as goal
 
 pub loop-i-init : goal.loop-i-init
 loop-i-init g c =
-    let r : Request = record { graphs = c.args.catalog.now.graphs; query = placed c.args.checked.now } in
+    let r : Request = record { graphs = c.args.catalog.now.graphs; query = placed c.args.checked.now; style = c.args.style } in
     let faults = g.S.Sink.faults c.args.out.now in
     let taken = g.S.Sink.taken c.args.out.now in
     let room = g.S.Sink.room c.args.out.now in
@@ -22,12 +22,12 @@ loop-i-init g c =
 
 pub run_statement-requires-clause-room : goal.run_statement-requires-clause-room
 run_statement-requires-clause-room g c =
-    room_for (record { graphs = c.args.catalog.now.graphs; query = placed c.args.checked.now }) c.loop-i.i (standing c.loop-i.catalog) _ (g.S.Sink.room c.args.out.now) (g.S.Sink.room c.loop-i.out)
+    room_for (record { graphs = c.args.catalog.now.graphs; query = placed c.args.checked.now; style = c.args.style }) c.loop-i.i (standing c.loop-i.catalog) _ (g.S.Sink.room c.args.out.now) (g.S.Sink.room c.loop-i.out)
     c.requires.room c.loop-i.invariant
 
 pub returns-in_err-run_statement : goal.returns-in_err-run_statement
 returns-in_err-run_statement g c =
-    let r : Request = record { graphs = c.args.catalog.now.graphs; query = placed c.args.checked.now } in
+    let r : Request = record { graphs = c.args.catalog.now.graphs; query = placed c.args.checked.now; style = c.args.style } in
     let within : c.loop-i.i < length (file_trees c.args.checked.now.file) = grind (arith, common_steps) in
     let item = item_at (file_trees c.args.checked.now.file) c.loop-i.i within in
     let stop = c.in_err-run_statement.field-0.0 in
@@ -37,7 +37,7 @@ returns-in_err-run_statement g c =
 
 pub loop-i-preserved : goal.loop-i-preserved
 loop-i-preserved g c =
-    let r : Request = record { graphs = c.args.catalog.now.graphs; query = placed c.args.checked.now } in
+    let r : Request = record { graphs = c.args.catalog.now.graphs; query = placed c.args.checked.now; style = c.args.style } in
     let within : c.loop-i.i < length (file_trees c.args.checked.now.file) = grind (arith, common_steps) in
     let item = item_at (file_trees c.args.checked.now.file) c.loop-i.i within in
     let next : suc c.loop-i.i ≡ c.loop-i.i + 1 = omega arith in
@@ -53,6 +53,6 @@ loop-i-preserved g c =
 
 pub returns : goal.returns
 returns g c =
-    let r : Request = record { graphs = c.args.catalog.now.graphs; query = placed c.args.checked.now } in
+    let r : Request = record { graphs = c.args.catalog.now.graphs; query = placed c.args.checked.now; style = c.args.style } in
     let over : length (file_trees c.args.checked.now.file) ≤ c.loop-i.i = grind (arith, common_steps) in
     done r c.loop-i.i (standing c.loop-i.catalog) _ (g.S.Sink.room c.args.out.now) (g.S.Sink.room c.loop-i.out) over c.loop-i.invariant

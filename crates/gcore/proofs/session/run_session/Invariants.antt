@@ -7,7 +7,7 @@ use Rattle.gcore.proofs.session.run_session.Given as goal
 -- what the statements so far print was written
 abbrev pub invariant-loop-i : goal.invariant-loop-i
 invariant-loop-i g l =
-    IsWritten (record { graphs = l.initial.catalog.graphs; query = placed l.checked }) l.i (standing l.catalog)
+    IsWritten (record { graphs = l.initial.catalog.graphs; query = placed l.checked; style = l.style }) l.i (standing l.catalog)
     (record {
       faults_before = g.S.Sink.faults l.initial.out;
       faults_after = g.S.Sink.faults l.out;

@@ -1,14 +1,14 @@
 use Rattle.std.proofs.Common.{ℕ, suc, List, [], ◌∷◌, ◌++◌, map, Some, None, Option, refl, sym, subst, arith, inl, inr}
 use Rattle.std.specs.Prelude.{IfSome, IsSomeAnd, Contains}
 use Rattle.gc_base.specs.Files.{Files}
-use Rattle.gcore.specs.Endings.{Call, Change, EndsAt, EndsAtFault, IsTurnOf, IsTurnOfGraph, IsTurnOfItsQuery, HasQuery, MayStop, StopsFor, graphs_of, graph_files, named_files}
+use Rattle.gcore.specs.Endings.{Call, Change, EndsAt, EndsAtFault, IsTurnOf, IsTurnOfGraph, IsTurnOfItsQuery, IsTurnOfItsSession, HasQuery, HasSession, MayStop, StopsFor, graphs_of, graph_files, named_files}
 use Rattle.gcore.specs.GraphSteps.{IsHeldStop}
 use Rattle.gcore.specs.Outcomes.{IsAsked, Request, outcome}
 use Rattle.gcore.specs.declared.command.Command.{Command}
 use Rattle.gcore.specs.declared.command.Command.TheVariants.{Run, Cert, Explain, Check, Make}
 use Rattle.gcore.specs.declared.pair.Pair.{Pair}
 use Rattle.gcore.specs.declared.stop.Stop.{Stop}
-use Rattle.gcore.specs.declared.stop.Stop.TheVariants.{Usage, Unread, TooLarge, Refused, Text, Sorts, NotBuilt, Faulted, Unwritten, OutOfMemory}
+use Rattle.gcore.specs.declared.stop.Stop.TheVariants.{Usage, Unread, TooLarge, Refused, Text, Sorts, Certificate, Rejected, NotBuilt, Faulted, Unwritten, OutOfMemory}
 use Rattle.gcore.proofs.top.gcore.Goals as goal
 
 abbrev files_of : List Pair → List (List ℕ)
@@ -34,7 +34,7 @@ is_named (Some (Run query pairs)) told file (inl turn) = one_more (files_of pair
 is_named (Some (Run query pairs)) told file (inr turn) = (0, omega arith, sym turn.0)
 is_named (Some (Cert query pairs)) told file h = absurd h
 is_named (Some (Explain query pairs)) told file h = absurd h
-is_named (Some (Check document)) told file h = absurd h
+is_named (Some (Check document)) told file h = (0, omega arith, sym h)
 is_named (Some (Make kind size start)) told file h = absurd h
 
 is_named_graph : (command : Option Command) (told : Option Files) (file : List ℕ) → IsSomeAnd command (λ c. IsTurnOfGraph told (graphs_of c) file) → Contains (graph_files command) file
@@ -49,6 +49,14 @@ has_query (Some (Explain query pairs)) told h = absurd h
 has_query (Some (Check document)) told h = absurd h
 has_query (Some (Make kind size start)) told h = absurd h
 
+has_session : (command : Option Command) (told : Option Files) → IsSomeAnd command (λ c. IsTurnOfItsSession told c) → IsSomeAnd command HasSession
+has_session None told h = absurd h
+has_session (Some (Run query pairs)) told h = tt
+has_session (Some (Cert query pairs)) told h = absurd h
+has_session (Some (Explain query pairs)) told h = absurd h
+has_session (Some (Check document)) told h = absurd h
+has_session (Some (Make kind size start)) told h = tt
+
 -- what is due at a fault
 ends : (told : Option Files) (command : Option Command) (out : Change) (stop : Stop)
     → IfSome told (λ files. (r : Request) × IsAsked (outcome command files) r × EndsAtFault r out stop) → EndsAt told command stop
@@ -62,8 +70,10 @@ may_stop call (TooLarge file) held h = is_named call.command call.files file h.0
 may_stop call (Refused refusal file) held h = (is_named_graph call.command call.files file h.0, held)
 may_stop call (Text refusal) held h = (has_query call.command call.files h.0, held)
 may_stop call (Sorts rule place) held h = (has_query call.command call.files h.0, held)
+may_stop call (Certificate refusal) held h = (h.0, held)
+may_stop call (Rejected search rule) held h = (h.0, held)
 may_stop call NotBuilt held h = tt
-may_stop call (Faulted fault) held h = (has_query call.command call.files h.0, held, ends call.files call.command call.out (Faulted fault) h.1)
+may_stop call (Faulted fault) held h = (has_session call.command call.files h.0, held, ends call.files call.command call.out (Faulted fault) h.1)
 may_stop call Unwritten held h = tt
 may_stop call OutOfMemory held h = tt
 

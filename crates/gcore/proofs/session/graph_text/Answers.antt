@@ -1,7 +1,7 @@
 use Rattle.std.proofs.Common.{◌∷◌, ◌++◌, [], ap, ◌∙◌}
-use Rattle.gcore.specs.Outcomes.{printed}
-use Rattle.gcore.proofs.session.print_graph.Goals as goal
+use Rattle.gcore.specs.Outcomes.{graph_text}
+use Rattle.gcore.proofs.session.graph_text.Goals as goal
 
 pub returns : goal.returns
-unfolding printed
+unfolding graph_text
 returns g c = c.in_ok-push.ensures.ok ∙ ap (λ text. text ++ 10 ∷ []) c.in_ok-text.ensures.text
