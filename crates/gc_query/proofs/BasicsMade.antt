@@ -1,5 +1,5 @@
 -- What a CONSTRUCT comes to, by the segments that its MATCH uses, its table, its recipe and what is made of them.
-use Rattle.std.proofs.Common.{◌≡◌, ℕ, List, [], ◌∷◌, map, Option, Some, None, IfOk, Result, Ok, Err, refl, sym, ap, subst, arith}
+use Rattle.std.proofs.Common.{◌≡◌, ◌∙◌, ℕ, List, [], ◌∷◌, map, Option, Some, None, IfOk, Result, Ok, Err, refl, sym, ap, subst, arith}
 use Rattle.std.specs.List.{AllByRecursion}
 use Rattle.gc_base.proofs.SetLaws.{AllByRecursion-append}
 use Rattle.gc_base.specs.declared.place.Sym.{Sym}
