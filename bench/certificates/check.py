@@ -250,12 +250,13 @@ def rejected(s, nodes, edges, moves, states):
         return "K3"
     if any(potential[q] > potential[p] + cost for p, q, cost in led):
         return "K4"
+    paths = [t["walk"][1:] for t in s["segments"]]
     for w in s["walks"]:
         node, state, left = start, 0, w["walk"][1:]
         ok = w["walk"][0] == start
         for m in w["run"]:
             by = {k: v for k, v in m.items() if k != "to"}
-            passed = left[:2] if "edge" in by else s["segments"][by["segment"]]["walk"][1:] if by.get("segment", len(s["segments"])) < len(s["segments"]) else []
+            passed = [by["edge"], *left[1:2]] if "edge" in by else paths[by["segment"]] if by.get("segment", len(paths)) < len(paths) else []
             to = passed[-1] if passed else node
             ok = ok and left[:len(passed)] == passed and any(p == (to, m["to"]) and b == by for p, _, b in steps(node, state))
             if not ok:

@@ -8,6 +8,8 @@ pub mod Items
 mod Keys
 pub mod LineFeeds
 mod NestedTokens
+mod ReadRanges
+mod ReadWritable
 mod Searches
 mod SpelledNesting
 mod ToldItems

@@ -4,6 +4,7 @@ ghost use Rattle.gc_cert_text.specs.Certificates.{SearchTold, certificate_of};
 ghost use Rattle.gc_cert_text.specs.CertificateTexts.{certificate_text};
 ghost use Rattle.gc_cert_text.specs.FormedSearches.{IsFormedSearch};
 ghost use Rattle.gc_cert_text.specs.WritableSearches.{IsWritable};
+ghost use Rattle.gc_spec.specs.PropertyGraph.{IsGraph};
 
 use gc_json::canonical_texts_load_back;
 
@@ -20,4 +21,13 @@ pub fn written_certificates_read_back()
     ensures { (searches : List SearchTold) → AllByRecursion IsWritable searches → certificate_of (certificate_text searches) ≡ Ok searches }
 {
     canonical_texts_load_back();
+}
+
+/// What a certificate tells, written again, tells the same, where its graphs are valid, as each graph in memory is.
+pub fn read_certificates_read_back()
+    ensures { (bytes : List ℕ) (searches : List SearchTold) → certificate_of bytes ≡ Ok searches → AllByRecursion (λ s. IsGraph s.graph) searches
+        → certificate_of (certificate_text searches) ≡ Ok searches }
+{
+    certificates_are_formed();
+    written_certificates_read_back();
 }

@@ -22,7 +22,9 @@ mod written;
 mod written_expressions;
 
 pub use certificate::{Certificate, SearchDocList};
-pub use laws::{certificates_are_formed, written_certificates_read_back};
+pub use laws::{
+    certificates_are_formed, read_certificates_read_back, written_certificates_read_back,
+};
 pub use reading::read;
 pub use refusal::CertRefusal;
 pub use writing::write;
