@@ -1,3 +1,7 @@
+mod Chains
+mod PartRows
 pub mod Planned
+mod Standing
 mod StepsMean
 mod Turns
+mod WholeLaw

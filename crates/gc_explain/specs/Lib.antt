@@ -3,3 +3,4 @@ pub mod ExplainedTrees
 pub mod ExplainedWords
 pub mod Needs
 pub mod PlanLines
+pub mod WholePlans

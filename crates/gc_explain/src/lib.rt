@@ -12,7 +12,9 @@ mod step;
 mod text;
 mod wording;
 
-pub use laws::explained_steps_mean_their_block;
+pub use laws::{
+    explained_steps_and_those_of_exists_queries_mean_their_block, explained_steps_mean_their_block,
+};
 pub use needing::needs_of;
 pub use planning::plan_steps;
 pub use step::{Step, StepWord};
