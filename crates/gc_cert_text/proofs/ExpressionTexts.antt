@@ -1,7 +1,6 @@
 -- What a parser answers is the expression of the tokens.
-use Rattle.std.proofs.Common.{◌≡◌, ℕ, ◌+◌, ◌<◌, List, [], ◌∷◌, length, take, Option, Some, None, refl, sym, ap, ◌∙◌, arith}
+use Rattle.std.proofs.Common.{◌≡◌, ℕ, ◌+◌, ◌<◌, List, [], ◌∷◌, length, Option, Some, None, refl, ap, ◌∙◌, arith}
 use Rattle.gc_lex.specs.declared.token.Token.{Token}
-use Rattle.gc_grammar.specs.Words.{Point}
 use Rattle.gc_grammar.specs.Queries.{SpellsRegex, start}
 use Rattle.gc_grammar.specs.Regexes.{Expression, regex_within}
 use Rattle.gc_parse.specs.Depths.{IsDepthFault, depth_fault_in}

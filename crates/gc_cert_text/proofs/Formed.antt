@@ -1,21 +1,21 @@
 -- What a certificate tells is formed.
-use Rattle.std.proofs.Common.{◌≡◌, ℕ, ◌+◌, ◌<◌, ◌≤◌, ◌&&◌, Bool, true, false, nat_lt, nat_le, List, [], ◌∷◌, length, Option, Some, None, option_and_then, Result, Ok, Err, refl, sym, ap, ◌∙◌, subst, arith, codes, if◌then◌else◌}
+use Rattle.std.proofs.Common.{◌≡◌, ℕ, ◌+◌, ◌<◌, ◌≤◌, Bool, true, false, nat_lt, nat_le, List, [], ◌∷◌, length, Option, Some, None, Result, Ok, Err, refl, ap, ◌∙◌, subst, arith, codes, if◌then◌else◌}
 use Rattle.std.proofs.lemmas.Bool.{and_parts}
 use Rattle.std.proofs.lemmas.Bool.Decides.{nat_tests}
-use Rattle.std.specs.List.{AllByRecursion, list_all}
+use Rattle.std.specs.List.{AllByRecursion}
 use Rattle.gc_automata.specs.Automata.{automaton_of}
 use Rattle.gc_automata.specs.Moves.{Segment}
 use Rattle.gc_json.specs.JsonValues.{value_of}
 use Rattle.gc_json.specs.Reading as reading
 use Rattle.gc_json.specs.Reading.{or_refused}
-use Rattle.gc_lex.specs.Lexis.{TokenList, lexed}
-use Rattle.gc_prod.specs.Segments.{IsSegment, AreSegments}
+use Rattle.gc_lex.specs.Lexis.{lexed}
+use Rattle.gc_prod.specs.Segments.{AreSegments}
 use Rattle.gc_regx.specs.Expressions.{IsExpression}
 use Rattle.gc_regx.specs.Trees.{RegexTree, ARegex}
 use Rattle.gc_spec.specs.PropertyGraph.{PropertyGraph, is_walk}
 use Rattle.serde_json.specs.Data.{Data, Items, no_items, item}
 use Rattle.serde_json.specs.Find.{get, as_str}
-use Rattle.gc_cert_text.specs.Certificates.{SearchTold, certificate_of, certificate_of_data, search_of, search_on, searches_from, searches_in, tree_in}
+use Rattle.gc_cert_text.specs.Certificates.{SearchTold, certificate_of, certificate_of_data, search_of, searches_from, searches_in, tree_in}
 use Rattle.gc_cert_text.specs.Expressions.{expression_in, is_small, small_tree_of_tokens, tree_of_text, tree_of_tokens}
 use Rattle.gc_cert_text.specs.FormedSearches.{IsFormedSearch}
 use Rattle.gc_cert_text.specs.Graphs.{graph_in}
@@ -25,7 +25,6 @@ use Rattle.gc_cert_text.specs.SearchNumberTexts.{numbers_in}
 use Rattle.gc_cert_text.specs.SegmentsOfGraphs.{are_segments_of, is_segment_cost, is_segment_of, segment_cost_in, segment_in, segments_in, view_in}
 use Rattle.gc_cert_text.specs.Numbers.{cost_in, walk_at}
 use Rattle.gc_cert_text.specs.Shapes.{has_document_shape}
-use Rattle.gc_cert_text.specs.declared.refusal.CertRefusal.{CertRefusal}
 use Rattle.gc_cert_text.specs.declared.refusal.CertRefusal.TheVariants.{NotJson, WrongShape, BadGraph, BadExpression, BadSegment, BadNumber}
 use Rattle.gc_cert_text.proofs.ExpressionTexts.{tree_spelled}
 use Rattle.gc_cert_text.proofs.FoundLaws.{was_found}

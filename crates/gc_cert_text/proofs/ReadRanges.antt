@@ -1,10 +1,9 @@
 -- What is read of a certificate has numbers in range, and graphs that are not too large.
-use Rattle.std.proofs.Common.{◌≡◌, ℕ, suc, ◌+◌, ◌^◌, ◌<◌, ◌≤◌, Bool, true, false, cond, if◌then◌else◌, nat_le, nat_lt, List, [], ◌∷◌, ◌++◌, length, map, Option, Some, None, Result, Ok, Err, refl, sym, ap, ◌∙◌, subst, arith, codes}
+use Rattle.std.proofs.Common.{◌≡◌, ℕ, ◌+◌, ◌^◌, ◌<◌, ◌≤◌, Bool, true, false, cond, if◌then◌else◌, nat_le, nat_lt, List, [], ◌∷◌, length, map, Option, Some, None, Result, Ok, Err, refl, sym, ap, ◌∙◌, subst, arith, codes}
 use Rattle.std.proofs.lemmas.Bool.Decides.{nat_tests}
 use Rattle.std.proofs.lemmas.List.{length-append}
 use Rattle.std.specs.List.{AllByRecursion, filter}
 use Rattle.std.specs.Ordering.{is_gt, is_lt}
-use Rattle.std.specs.Str.{all_ascii_digits}
 use Rattle.std.specs.Str.Parse.{digits_value}
 use Rattle.std.specs.declared.cmp.Ordering.{Ordering}
 use Rattle.std.specs.declared.cmp.Ordering.TheVariants.{Less, Equal, Greater}
@@ -15,15 +14,12 @@ use Rattle.gc_base.specs.declared.walk.Walk.{Walk}
 use Rattle.gc_cert.specs.declared.document.Potential.{Potential}
 use Rattle.gc_cert.specs.declared.document.WalkDoc.{WalkDoc}
 use Rattle.gc_json.specs.CanonicalText.{element_count}
-use Rattle.gc_json.specs.FileElements.{Seen, add_edge_of, add_element_of, add_node_of, add_path_of, add_values_of, agreeing, edge_of, node_of, path_of}
+use Rattle.gc_json.specs.FileElements.{Seen, add_element_of, add_values_of, agreeing, edge_of, node_of, path_of}
 use Rattle.gc_json.specs.ElementValues.{ElementValues, element_of}
 use Rattle.gc_json.specs.Gathering.{all_or_first, data_of}
 use Rattle.gc_json.specs.GraphFiles.{FileLists, add_elements_of, graph_of_data, graph_of_few, graph_of_lists, lists_of, located, most_elements, part_of, whole}
 use Rattle.gc_json.specs.JsonValues.{id_of, largest_id}
-use Rattle.gc_json.specs.Reading as reading
-use Rattle.gc_json.specs.Reading.{or_refused}
 use Rattle.gc_json.specs.WalkItems.{id_on_walk, ids_on_walk, number_of, steps_from, walk_from, walk_of}
-use Rattle.gc_json.specs.declared.refusal.GraphRefusal.{GraphRefusal}
 use Rattle.gc_json.specs.declared.refusal.Spot.{Spot}
 use Rattle.gc_ppg.specs.Built.{with_edge, with_node, with_path}
 use Rattle.gc_ppg.specs.Shapes.{agrees}
@@ -38,8 +34,8 @@ use Rattle.serde_json.specs.Data.{Data, Items, item, no_items}
 use Rattle.serde_json.specs.Events.{items_len}
 use Rattle.serde_json.specs.Find.{as_str, at, get}
 use Rattle.gc_cert_text.specs.Graphs.{graph_in}
-use Rattle.gc_cert_text.specs.Numbers.{by_of, cost_below, cost_in, cost_of_text, id_in, is_unpadded, move_in, potential_in, small_in, small_of, walk_at, walk_doc_in}
-use Rattle.gc_cert_text.specs.Options.{◌>>=◌, array_at, each_of, found, if_so, list_at}
+use Rattle.gc_cert_text.specs.Numbers.{by_of, cost_below, cost_in, cost_of_text, id_in, move_in, potential_in, small_in, small_of, walk_at, walk_doc_in}
+use Rattle.gc_cert_text.specs.Options.{◌>>=◌, array_at, each_of, if_so, list_at}
 use Rattle.gc_cert_text.specs.SegmentsOfGraphs.{are_segments_of, is_name, is_segment_cost, name_in, segment_cost_in, segment_in, segments_in, view_in}
 use Rattle.gc_cert_text.specs.WritableSearches.{IsWritableBy, IsWritableMove, IsWritablePotential, IsWritableSegment, IsWritableStep, IsWritableWalk, IsWritableWalkDoc}
 use Rattle.gc_cert_text.proofs.Formed.{passed, was_there, went, went_on}

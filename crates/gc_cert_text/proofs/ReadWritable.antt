@@ -1,11 +1,10 @@
 -- A search that is read can be written, where its graph is valid.
-use Rattle.std.proofs.Common.{◌≡◌, ℕ, ◌+◌, ◌≤◌, Bool, true, false, List, [], ◌∷◌, Option, Some, None, Result, Ok, Err, refl, subst, codes, if◌then◌else◌}
+use Rattle.std.proofs.Common.{◌≡◌, ℕ, ◌+◌, ◌≤◌, Bool, true, false, List, [], ◌∷◌, Some, Ok, Err, subst, codes, if◌then◌else◌}
 use Rattle.std.specs.List.{AllByRecursion}
-use Rattle.gc_automata.specs.Moves.{Segment}
 use Rattle.gc_json.specs.CanonicalText.{element_count}
 use Rattle.gc_json.specs.JsonValues.{value_of}
 use Rattle.gc_json.specs.Reading.{or_refused}
-use Rattle.gc_spec.specs.PropertyGraph.{IsGraph, IsId, PropertyGraph}
+use Rattle.gc_spec.specs.PropertyGraph.{IsGraph, IsId}
 use Rattle.serde_json.specs.Data.{Data, Items, item, no_items}
 use Rattle.serde_json.specs.Find.{get}
 use Rattle.gc_cert_text.specs.Certificates.{SearchTold, certificate_of, certificate_of_data, search_of, searches_from, searches_in, tree_in}

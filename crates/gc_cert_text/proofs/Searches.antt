@@ -1,5 +1,5 @@
 -- A turn of a loop that reads searches.
-use Rattle.std.proofs.Common.{◌≡◌, ℕ, ◌+◌, ◌<◌, get_or, drop, ◌++◌, List, [], ◌∷◌, length, map, Result, Ok, Err, refl, sym, ap, ap₂, subst, ◌∙◌, append_assoc, append-nil, arith}
+use Rattle.std.proofs.Common.{◌≡◌, ℕ, ◌+◌, ◌<◌, get_or, drop, ◌++◌, List, [], ◌∷◌, length, map, Result, Ok, Err, refl, sym, ap, ap₂, subst, ◌∙◌, append_assoc, arith}
 use Rattle.std.proofs.lemmas.List.{drop_more, length-append, map-append}
 use Rattle.gc_cert.specs.declared.document.SearchDoc.{SearchDoc}
 use Rattle.gc_json.specs.Reading.{◌>>=◌}

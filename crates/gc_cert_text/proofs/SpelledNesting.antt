@@ -1,9 +1,6 @@
 -- An expression that tokens spell nests no deeper than their brackets.
-use Rattle.std.proofs.Common.{◌≡◌, ℕ, zero, suc, ◌+◌, ◌≤◌, max, Bool, true, false, nat_lt, List, [], ◌∷◌, ◌++◌, length, map, take, Option, Some, None, refl, sym, ap, subst, ◌∙◌, cond, arith}
+use Rattle.std.proofs.Common.{◌≡◌, ℕ, zero, suc, ◌+◌, ◌≤◌, max, Bool, true, false, nat_lt, List, [], ◌∷◌, ◌++◌, map, take, Option, Some, None, refl, sym, ap, subst, ◌∙◌, cond, arith}
 use Rattle.std.proofs.lemmas.Bool.Decides.{nat_tests}
-use Rattle.std.proofs.lemmas.List.{length-append}
-use Rattle.std.proofs.lemmas.List.Elements.{filter-append}
-use Rattle.std.specs.List.{filter}
 use Rattle.gc_ast.specs.Trees.{Named}
 use Rattle.gc_grammar.specs.Queries.{SpellsRegex}
 use Rattle.gc_grammar.specs.Regexes.{Expression, alt, any, atom, cat, chained, group, label, plain, regex_within, star, starred, test, turned, view}
@@ -14,7 +11,6 @@ use Rattle.gc_lex.specs.declared.token.Mark.TheVariants as mark
 use Rattle.gc_lex.specs.declared.token.Token.{Token}
 use Rattle.gc_lex.specs.declared.token.Token.TheVariants.{Symbol, Word}
 use Rattle.gc_parse.specs.Depths.{IsDepthFault, is_closing, is_closing_mark, is_opening, is_opening_mark}
-use Rattle.gc_print.specs.LooseTrees.{looseness_of, rank}
 use Rattle.gc_regx.specs.Trees as tree
 use Rattle.gc_regx.specs.Trees.{RegexTree, ARegex, ARow, row}
 use Rattle.gc_cert_text.specs.Nesting.{NestedPart, deepest, enclosed_depth, nested, nesting_of}

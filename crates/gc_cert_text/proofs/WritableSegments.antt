@@ -1,5 +1,5 @@
 -- The segments of a search that is written: their walks are of its graph, so their identities are bounded.
-use Rattle.std.proofs.Common.{◌≡◌, ℕ, ◌<◌, ◌≤◌, true, not, ◌&&◌, List, [], ◌∷◌, arith}
+use Rattle.std.proofs.Common.{◌≡◌, ℕ, ◌<◌, ◌≤◌, true, not, List, [], ◌∷◌}
 use Rattle.std.proofs.lemmas.Bool.{and_parts}
 use Rattle.std.specs.List.{AllByRecursion}
 use Rattle.gc_automata.specs.Moves.{Segment}
@@ -7,7 +7,7 @@ use Rattle.gc_base.specs.Words.{is_word, is_reserved}
 use Rattle.gc_base.specs.declared.walk.Step.{Step}
 use Rattle.gc_base.specs.declared.walk.Walk.{Walk}
 use Rattle.gc_json.proofs.GraphsReadBack.{Bounded, edges_bounded, joined_bound, node_bound}
-use Rattle.gc_prod.specs.Segments.{IsSegment, AreSegments}
+use Rattle.gc_prod.specs.Segments.{AreSegments}
 use Rattle.gc_spec.specs.PropertyGraph.{Edge, IsGraph, PropertyGraph, are_steps_from, is_among, is_joined, is_walk, node_ids}
 use Rattle.gc_cert_text.specs.Certificates.{SearchTold}
 use Rattle.gc_cert_text.specs.SegmentsOfGraphs.{is_name}

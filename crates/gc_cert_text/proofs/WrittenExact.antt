@@ -1,26 +1,22 @@
 -- The data of a certificate can be printed and read: numbers are whole, keys ascend, texts are UTF-8, and they are flat.
-use Rattle.std.proofs.Common.{◌≡◌, ℕ, ◌^◌, ◌<◌, ◌≤◌, List, [], ◌∷◌, map, refl, arith, codes, true}
-use Rattle.std.proofs.lemmas.Bool.{and_parts}
+use Rattle.std.proofs.Common.{ℕ, ◌^◌, ◌<◌, ◌≤◌, List, [], ◌∷◌, refl, arith}
 use Rattle.std.proofs.lemmas.Fmt.{IsAscii-decimal_wide}
 use Rattle.std.proofs.lemmas.Str.{IsUtf8-from_ascii}
 use Rattle.std.specs.List.{AllByRecursion}
 use Rattle.std.specs.Prelude.{decimal}
-use Rattle.std.specs.Str.{IsUtf8}
 use Rattle.gc_automata.specs.Moves.{Segment}
-use Rattle.gc_base.specs.Words.{is_word}
 use Rattle.gc_base.specs.declared.walk.Step.{Step}
 use Rattle.gc_base.specs.declared.walk.Walk.{Walk}
 use Rattle.gc_cert.specs.declared.document.Potential.{Potential}
 use Rattle.gc_cert.specs.declared.document.WalkDoc.{WalkDoc}
-use Rattle.gc_json.specs.CanonicalText.{array_of, step_items, walk_data}
+use Rattle.gc_json.specs.CanonicalText.{step_items, walk_data}
 use Rattle.gc_json.proofs.GraphsReadBack.{graph_exact, graph_flat, items_exact, items_flat, steps_flat}
 use Rattle.gc_json.proofs.ReadsBack.{IsExact, ItemsAreExact}
 use Rattle.gc_json.proofs.Utf8Texts.{IsPlain, graph_plain, items_plain, key_utf8, steps_plain}
 use Rattle.gc_print.proofs.AsciiTexts.{formed_utf8}
 use Rattle.gc_prod.specs.declared.moves.By.{By}
 use Rattle.gc_prod.specs.declared.moves.By.TheVariants as by
-use Rattle.gc_prod.specs.declared.moves.RunMove.{RunMove}
-use Rattle.serde_json.specs.Data.{Data, depth}
+use Rattle.serde_json.specs.Data.{depth}
 use Rattle.gc_cert_text.specs.Certificates.{SearchTold}
 use Rattle.gc_cert_text.specs.CertificateTexts.{certificate_data, cost_data, move_data, potential_data, run_move_data, search_data, segment_data, walk_doc_data}
 use Rattle.gc_cert_text.specs.WritableSearches.{IsWritable, IsWritableBy, IsWritableMove, IsWritablePotential, IsWritableStep, IsWritableWalk, IsWritableWalkDoc}

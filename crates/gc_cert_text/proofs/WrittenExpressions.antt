@@ -1,5 +1,5 @@
 -- The expression of a search that is written is read as it is.
-use Rattle.std.proofs.Common.{◌≡◌, ℕ, ◌≤◌, true, List, [], ◌++◌, length, Some, None, Ok, refl, sym, ap, subst, ◌∙◌, arith, nat_le}
+use Rattle.std.proofs.Common.{◌≡◌, ◌≤◌, true, [], ◌++◌, length, Some, None, Ok, refl, sym, ap, ◌∙◌, arith}
 use Rattle.std.proofs.lemmas.Bool.Decides.{nat_tests}
 use Rattle.std.proofs.lemmas.List.{append-nil}
 use Rattle.gc_lex.specs.Lexis.{TokenList, lexed}
@@ -12,10 +12,9 @@ use Rattle.gc_print.proofs.Lexing.{HasTokens, lexes_end}
 use Rattle.gc_print.proofs.SpelledExpressions.{tokens_spell}
 use Rattle.gc_regx.specs.Expressions.{IsExpression}
 use Rattle.gc_regx.specs.Trees.{RegexTree, ARegex}
-use Rattle.serde_json.specs.Data.{string}
 use Rattle.gc_cert_text.specs.Certificates.{SearchTold, tree_in}
 use Rattle.gc_cert_text.specs.CertificateTexts.{search_data}
-use Rattle.gc_cert_text.specs.Expressions.{expression_in, is_small, small_tree_of_tokens, tree_of_text, tree_of_tokens}
+use Rattle.gc_cert_text.specs.Expressions.{is_small, tree_of_text, tree_of_tokens}
 use Rattle.gc_cert_text.specs.Nesting.{nesting_of}
 use Rattle.gc_cert_text.specs.WritableSearches.{IsWritable}
 use Rattle.gc_cert_text.proofs.ExpressionTexts.{spelled}

@@ -1,5 +1,5 @@
 -- The numbers of a search that is written are read as they are.
-use Rattle.std.proofs.Common.{◌≡◌, ℕ, suc, ◌+◌, ◌*◌, ◌/◌, ◌%◌, ◌^◌, ◌<◌, ◌≤◌, ◌&&◌, ◌==◌, Bool, true, false, not, List, [], ◌∷◌, ◌++◌, map, length, get_or, Option, Some, Ok, refl, sym, ap, ◌∙◌, subst, arith, codes, nat_le, nat_lt, ne_eqb}
+use Rattle.std.proofs.Common.{◌≡◌, ℕ, ◌+◌, ◌/◌, ◌%◌, ◌^◌, ◌<◌, ◌≤◌, ◌==◌, Bool, true, false, not, List, [], ◌∷◌, ◌++◌, map, length, get_or, Option, Some, Ok, refl, sym, ap, ◌∙◌, arith, nat_le, nat_lt, ne_eqb}
 use Rattle.std.proofs.lemmas.Bool.Decides.{nat_tests}
 use Rattle.std.proofs.lemmas.Fmt.{decimal_by_steps_wide, decimal_is_IsNumeral_wide}
 use Rattle.std.proofs.lemmas.Str.Parse.{IsNumeralModel, numerals_by_value, tells_all_ascii_digits}
@@ -12,22 +12,20 @@ use Rattle.gc_base.specs.declared.walk.Step.{Step}
 use Rattle.gc_base.specs.declared.walk.Walk.{Walk}
 use Rattle.gc_cert.specs.declared.document.Potential.{Potential}
 use Rattle.gc_cert.specs.declared.document.WalkDoc.{WalkDoc}
-use Rattle.gc_json.specs.CanonicalText.{array_of, id_data, step_items, walk_data}
+use Rattle.gc_json.specs.CanonicalText.{id_data, step_items}
 use Rattle.gc_json.specs.WalkItems.{id_on_walk, steps_among, walk_of}
 use Rattle.gc_json.proofs.GatheredSteps.{steps_gathered, walk_gathered}
 use Rattle.gc_json.proofs.PartsLoadBack.{StepIsBounded, bound, id_back, on_walk_back, steps_back}
 use Rattle.gc_prod.specs.declared.moves.By.{By}
 use Rattle.gc_prod.specs.declared.moves.By.TheVariants as by
-use Rattle.gc_prod.specs.declared.moves.RunMove.{RunMove}
 use Rattle.gc_spec.specs.PropertyGraph.{IsId}
-use Rattle.serde_json.specs.Data.{Data, Items, item, no_items}
-use Rattle.serde_json.specs.Find.{get}
+use Rattle.serde_json.specs.Data.{Data, item}
 use Rattle.serde_json.specs.View.{items_of}
 use Rattle.gc_cert_text.specs.Certificates.{SearchTold}
 use Rattle.gc_cert_text.specs.CertificateTexts.{cost_data, move_data, number_data, potential_data, run_move_data, search_data, segment_data, walk_doc_data}
-use Rattle.gc_cert_text.specs.Numbers.{cost_below, cost_in, cost_of_text, has_segment_numbers, id_in, is_id, is_unpadded, move_in, potential_in, small_in, small_of, walk_at, walk_doc_in}
-use Rattle.gc_cert_text.specs.Options.{each_of, found, list_at}
-use Rattle.gc_cert_text.specs.SearchNumberTexts.{numbers_in, numbers_of}
+use Rattle.gc_cert_text.specs.Numbers.{cost_in, has_segment_numbers, id_in, is_id, is_unpadded, move_in, potential_in, small_in, walk_doc_in}
+use Rattle.gc_cert_text.specs.Options.{each_of}
+use Rattle.gc_cert_text.specs.SearchNumberTexts.{numbers_in}
 use Rattle.gc_cert_text.specs.Shapes.{each_is}
 use Rattle.gc_cert_text.specs.WritableSearches.{IsWritable, IsWritableBy, IsWritableMove, IsWritablePotential, IsWritableStep, IsWritableWalk, IsWritableWalkDoc}
 use Rattle.gc_cert_text.proofs.WritableSegments.{IsWholeSegment, whole_segments}

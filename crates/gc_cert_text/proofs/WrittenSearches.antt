@@ -1,5 +1,5 @@
 -- A certificate that is written is read as it is.
-use Rattle.std.proofs.Common.{◌≡◌, ℕ, ◌+◌, ◌<◌, ◌≤◌, ◌&&◌, true, List, [], ◌∷◌, length, map, Some, Ok, refl, sym, ap, ◌∙◌, arith, nat_le, nat_lt}
+use Rattle.std.proofs.Common.{◌≡◌, ℕ, ◌+◌, ◌≤◌, true, List, [], ◌∷◌, length, map, Some, Ok, refl, sym, ◌∙◌, arith, nat_le, nat_lt}
 use Rattle.std.proofs.lemmas.Bool.Decides.{nat_tests}
 use Rattle.std.proofs.lemmas.Str.{is_utf8-from_IsUtf8}
 use Rattle.std.specs.List.{AllByRecursion}
@@ -10,13 +10,12 @@ use Rattle.gc_json.specs.GraphFiles.{file_graph, graph_of_data}
 use Rattle.gc_json.specs.LoadedAgain.{AgreesWith, EdgeAgrees, NodeAgrees, PathAgrees}
 use Rattle.gc_json.proofs.GraphsReadBack.{read-canonical_text}
 use Rattle.gc_json.proofs.Utf8Texts.{IsUtf8-canonical_text}
-use Rattle.gc_prod.specs.Segments.{IsSegment, AreSegments}
-use Rattle.gc_spec.specs.PropertyGraph.{Edge, IsGraph, Node, Path, PropertyGraph}
+use Rattle.gc_prod.specs.Segments.{AreSegments}
+use Rattle.gc_spec.specs.PropertyGraph.{IsGraph, PropertyGraph}
 use Rattle.serde_json.specs.View.{items_of}
 use Rattle.gc_cert_text.specs.Certificates.{SearchTold, certificate_of, search_of, searches_from}
-use Rattle.gc_cert_text.specs.CertificateTexts.{certificate_data, certificate_text, search_data, segment_data}
-use Rattle.gc_cert_text.specs.Graphs.{graph_in}
-use Rattle.gc_cert_text.specs.SegmentsOfGraphs.{are_segments_of, is_name, is_segment_cost, segment_in, segments_in}
+use Rattle.gc_cert_text.specs.CertificateTexts.{certificate_text, search_data, segment_data}
+use Rattle.gc_cert_text.specs.SegmentsOfGraphs.{are_segments_of, segment_in, segments_in}
 use Rattle.gc_cert_text.specs.WritableSearches.{IsWritable}
 use Rattle.gc_cert_text.proofs.WritableSegments.{IsWholeSegment, whole_segments}
 use Rattle.gc_cert_text.proofs.WrittenExpressions.{tree_back}

@@ -1,13 +1,10 @@
 -- The data of a certificate have the shape of a document.
-use Rattle.std.proofs.Common.{◌≡◌, ℕ, ◌+◌, ◌*◌, ◌%◌, ◌==◌, Bool, true, List, [], ◌∷◌, map, length, refl, sym, ap, ◌∙◌, arith, eq-eqb}
-use Rattle.gc_automata.specs.Moves.{Segment}
+use Rattle.std.proofs.Common.{◌≡◌, ℕ, ◌*◌, ◌%◌, Bool, true, List, [], ◌∷◌, map, length, refl, arith, eq-eqb}
 use Rattle.gc_base.specs.declared.walk.Step.{Step}
-use Rattle.gc_cert.specs.declared.document.Potential.{Potential}
 use Rattle.gc_cert.specs.declared.document.WalkDoc.{WalkDoc}
 use Rattle.gc_json.specs.CanonicalText.{id_data, step_items}
 use Rattle.gc_prod.specs.declared.moves.By.{By}
 use Rattle.gc_prod.specs.declared.moves.By.TheVariants as by
-use Rattle.gc_prod.specs.declared.moves.RunMove.{RunMove}
 use Rattle.serde_json.specs.Data.{Data, item}
 use Rattle.serde_json.specs.Events.{items_len}
 use Rattle.serde_json.specs.View.{items_of}

@@ -1,5 +1,5 @@
 -- The text of a certificate is read as its data.
-use Rattle.std.proofs.Common.{◌≡◌, ℕ, pos, negsuc, List, [], ◌∷◌, ◌++◌, Some, option_and_then, refl, sym, ap, ◌∙◌, arith, cond}
+use Rattle.std.proofs.Common.{◌≡◌, pos, negsuc, List, [], ◌∷◌, ◌++◌, Some, option_and_then, refl, sym, ap, ◌∙◌, arith}
 use Rattle.std.proofs.lemmas.Str.{IsUtf8-append, is_utf8-from_IsUtf8}
 use Rattle.std.specs.List.{AllByRecursion}
 use Rattle.json.specs.Json as json
@@ -12,8 +12,8 @@ use Rattle.json.proofs.Printed.Trees.{ArePrintable-json_tokens}
 use Rattle.json.proofs.Printed.Utf8.{IsUtf8-are_ascii}
 use Rattle.gc_json.specs.JsonValues.{value_of}
 use Rattle.gc_json.proofs.ReadsBack.{IsExact, IsWhole, ItemsAreExact, MembersAreExact, read-compact_text}
-use Rattle.gc_json.proofs.Utf8Texts.{IsPlain, utf8_text}
-use Rattle.serde_json.specs.Data.{Num, unsigned, negative, float, Data, null, boolean, number, string, array, object, Items, no_items, item, Members, no_members, member, depth}
+use Rattle.gc_json.proofs.Utf8Texts.{utf8_text}
+use Rattle.serde_json.specs.Data.{Num, unsigned, negative, float, Data, null, boolean, number, string, array, object, Items, no_items, item, Members, no_members, member}
 use Rattle.serde_json.specs.Read.{max_depth, of_json, read}
 use Rattle.serde_json.specs.Written.{compact_text, items_outline, members_outline, number_text, outline}
 use Rattle.serde_json.proofs.Texts.{print-outline}

@@ -1,5 +1,5 @@
 -- The text of a certificate.
-use Rattle.std.specs.Prelude.{ℕ, List, [], ◌∷◌, ◌++◌, codes, decimal}
+use Rattle.std.specs.Prelude.{ℕ, List, ◌++◌, codes, decimal}
 use Rattle.gc_automata.specs.Moves.{Segment}
 use Rattle.gc_cert.specs.declared.document.Potential.{Potential}
 use Rattle.gc_cert.specs.declared.document.WalkDoc.{WalkDoc}

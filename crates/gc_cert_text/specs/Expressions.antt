@@ -1,5 +1,5 @@
 -- The expressions of a certificate.
-use Rattle.std.specs.Prelude.{ℕ, ◌+◌, Bool, nat_le, List, [], ◌∷◌, length, Option, Some, None, option_map}
+use Rattle.std.specs.Prelude.{ℕ, ◌+◌, Bool, nat_le, List, [], ◌∷◌, length, Option, Some, None}
 use Rattle.gc_automata.specs.Automata.{automaton_of}
 use Rattle.gc_grammar.specs.Queries.{start}
 use Rattle.gc_grammar.specs.Regexes.{Expression}

@@ -1,5 +1,5 @@
 -- Searches that read back where they are written.
-use Rattle.std.specs.Prelude.{◌≡◌, ℕ, ◌<◌, ◌≤◌, ◌^◌, true, ⊤}
+use Rattle.std.specs.Prelude.{◌≡◌, ◌<◌, ◌≤◌, ◌^◌, true, ⊤}
 use Rattle.std.specs.List.{AllByRecursion}
 use Rattle.gc_automata.specs.Moves.{Segment}
 use Rattle.gc_base.specs.declared.walk.Step.{Step}

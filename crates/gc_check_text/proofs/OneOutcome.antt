@@ -1,5 +1,5 @@
 -- Bytes have one outcome, but for want of memory.
-use Rattle.std.proofs.Common.{◌≡◌, ℕ, zero, suc, ◌+◌, ◌<◌, List, [], ◌∷◌, length, map, take, slice_get, Some, Result, Ok, Err, refl, sym, ap, subst, ◌∙◌, arith}
+use Rattle.std.proofs.Common.{◌≡◌, ℕ, zero, suc, ◌<◌, List, [], ◌∷◌, length, map, take, slice_get, Some, Result, Ok, Err, refl, sym, ap, subst, ◌∙◌, arith}
 use Rattle.std.proofs.lemmas.List.{length-map}
 use Rattle.std.specs.Cmp.{ranks}
 use Rattle.std.specs.List.{AllByRecursion}
@@ -7,14 +7,14 @@ use Rattle.std.specs.Ordering.{MatchOrdering, nat_cmp}
 use Rattle.std.specs.declared.cmp.Ordering.{Ordering}
 use Rattle.std.specs.declared.cmp.Ordering.TheVariants.{Less, Equal, Greater}
 use Rattle.gc_cert.specs.declared.document.SearchDoc.{SearchDoc}
-use Rattle.gc_cert_text.specs.Certificates.{SearchTold, all_told, certificate_of, told}
+use Rattle.gc_cert_text.specs.Certificates.{SearchTold, certificate_of, told}
 use Rattle.gc_cert_text.specs.FormedSearches.{IsFormedSearch}
 use Rattle.gc_check.specs.declared.rule.KRule.{KRule}
 use Rattle.gc_check.specs.declared.rule.Verdict.{Verdict}
 use Rattle.gc_check.specs.declared.rule.Verdict.TheVariants.{Accepted, Rejected}
 use Rattle.gc_regx.proofs.PartsOfExpressions.{has_parts}
 use Rattle.gc_regx.specs.Views.{regex_tree}
-use Rattle.gc_check_text.specs.Outcomes.{AreAccepted, IsAccepted, IsFirstRejected, IsOutcome, IsRejected, IsVerdictOn}
+use Rattle.gc_check_text.specs.Outcomes.{IsAccepted, IsFirstRejected, IsOutcome, IsVerdictOn}
 use Rattle.gc_check_text.specs.declared.refusal.CheckRefusal.{CheckRefusal}
 use Rattle.gc_check_text.specs.declared.refusal.CheckRefusal.TheVariants as refusal
 use Rattle.gc_check_text.proofs.OneVerdict.{one_verdict}

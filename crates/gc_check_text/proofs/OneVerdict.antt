@@ -1,12 +1,10 @@
 -- Searches that tell the same have one verdict.
-use Rattle.std.proofs.Common.{◌≡◌, List, refl, sym, ap, subst, ◌∙◌}
-use Rattle.std.specs.List.{AllByRecursion}
+use Rattle.std.proofs.Common.{◌≡◌, sym, ap, subst, ◌∙◌}
 use Rattle.gc_automata.specs.Machines.{IsAutomatonOf}
-use Rattle.gc_automata.specs.Moves.{Network}
-use Rattle.gc_cert.specs.Acceptance.{IsProductOf, network_of}
+use Rattle.gc_cert.specs.Acceptance.{IsProductOf}
 use Rattle.gc_cert.specs.declared.document.SearchDoc.{SearchDoc}
 use Rattle.gc_cert_text.specs.Certificates.{SearchTold, told}
-use Rattle.gc_check.specs.Verdicts.{Holds, IsFirstBroken, IsVerdict}
+use Rattle.gc_check.specs.Verdicts.{Holds, IsVerdict}
 use Rattle.gc_check.specs.declared.rule.KRule.{KRule}
 use Rattle.gc_check.specs.declared.rule.KRule.TheVariants.{PotentialsListed, StartFree, MovesCovered, MovesBounded, RunsPassWalks, CostsLeast}
 use Rattle.gc_check.specs.declared.rule.Verdict.{Verdict}

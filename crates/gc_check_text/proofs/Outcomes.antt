@@ -1,15 +1,13 @@
 -- What is told of the searches of a certificate is the outcome for its bytes.
-use Rattle.std.proofs.Common.{◌≡◌, ℕ, List, Result, Ok, Err, length, map, sym, ◌∙◌}
+use Rattle.std.proofs.Common.{◌≡◌, ℕ, List, Result, Ok, Err, sym, ◌∙◌}
 use Rattle.std.proofs.lemmas.List.{length-map}
-use Rattle.std.specs.List.{AllByRecursion}
 use Rattle.std.specs.Prelude.{IfOk}
-use Rattle.gc_cert.specs.declared.document.SearchDoc.{SearchDoc}
 use Rattle.gc_cert_text.specs.Certificates.{IsCertRefusal, all_told, certificate_of, told}
 use Rattle.gc_cert_text.specs.declared.certificate.Certificate.{Certificate}
 use Rattle.gc_cert_text.specs.declared.refusal.CertRefusal.{CertRefusal}
 use Rattle.gc_cert_text.specs.declared.refusal.CertRefusal.TheVariants.{NotJson, WrongShape, BadGraph, BadExpression, BadSegment, BadNumber, Memory}
 use Rattle.gc_check_text.specs.Checked.{AreCounted, IsSound}
-use Rattle.gc_check_text.specs.Outcomes.{AreAccepted, AreShortest, IsAccepted, IsOutcome, IsRefusal, ListsShortest, refusal_of}
+use Rattle.gc_check_text.specs.Outcomes.{AreShortest, IsAccepted, IsOutcome, IsRefusal, ListsShortest, refusal_of}
 use Rattle.gc_check_text.specs.declared.refusal.CheckRefusal.{CheckRefusal}
 use Rattle.gc_check_text.specs.declared.refusal.CheckRefusal.TheVariants as refusal
 use Rattle.gc_check_text.proofs.Places.{mapped, weaker}

@@ -1,5 +1,5 @@
 -- From a state to a state of an automaton there is one transition at most.
-use Rattle.std.proofs.Common.{◌≡◌, ℕ, ◌+◌, ◌-◌, ◌<◌, ◌≤◌, ◌⊎◌, inl, inr, List, [], ◌∷◌, ◌++◌, refl, sym, ap, subst, ◌∙◌, arith}
+use Rattle.std.proofs.Common.{◌≡◌, ℕ, ◌+◌, ◌-◌, ◌<◌, ◌≤◌, ◌⊎◌, inl, inr, List, [], ◌∷◌, ◌++◌, refl, sym, ap, ◌∙◌, arith}
 use Rattle.std.specs.List.{Contains}
 use Rattle.gc_automata.specs.Automata.{Automaton, AutomataOf, automaton_of, go, in_turn, one_of, skip, star_of, states_in, symbol, transitions_in_turn, transitions_of_branches}
 use Rattle.gc_automata.specs.declared.transition.On.{On}

@@ -1,4 +1,4 @@
-use Rattle.std.proofs.Common.{◌≡◌, ℕ, List, [], true, false, Some, None, Option, Result, Ok, Err, refl, sym, ap, subst, ◌∙◌}
+use Rattle.std.proofs.Common.{◌≡◌, ℕ, List, [], false, Some, None, Result, refl, sym, ap, subst, ◌∙◌}
 use Rattle.std.proofs.lemmas.Str.{is_utf8-from_IsUtf8}
 use Rattle.std.specs.Str.{IsUtf8}
 use Rattle.gc_json.specs.GraphFiles.{IsFileRefusal, file_graph, graph_of_data}

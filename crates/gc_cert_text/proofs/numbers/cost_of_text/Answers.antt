@@ -1,9 +1,9 @@
-use Rattle.std.proofs.Common.{◌≡◌, ℕ, ◌<◌, ◌^◌, Bool, ◌&&◌, List, [], ◌∷◌, length, true, false, nat_lt, Some, None, Result, Ok, Err, arith, refl, sym, ap, ◌∙◌}
+use Rattle.std.proofs.Common.{◌≡◌, ℕ, ◌<◌, ◌^◌, Bool, List, [], ◌∷◌, length, true, false, nat_lt, None, Result, Err, arith, refl, sym, ap, ◌∙◌}
 use Rattle.std.specs.Str.{all_ascii_digits}
 use Rattle.std.specs.Str.Parse.{digits_value, ParsesUnsigned}
 use Rattle.std.proofs.lemmas.Bool.Decides.{nat_tests}
 use Rattle.std.proofs.lemmas.Str.Parse.{IsNumeralModel, numerals_by_value, tells_all_ascii_digits, parse_gives}
-use Rattle.gc_cert_text.specs.Numbers.{cost_below, cost_of_text, is_unpadded}
+use Rattle.gc_cert_text.specs.Numbers.{cost_of_text, is_unpadded}
 use Rattle.gc_cert_text.proofs.numbers.cost_of_text.Goals as goal
 
 decimal : IsNumeralModel (λ digits. all_ascii_digits digits ≡ true) (digits_value 10)

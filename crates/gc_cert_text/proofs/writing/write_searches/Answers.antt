@@ -1,4 +1,4 @@
-use Rattle.std.proofs.Common.{◌≡◌, List, ◌∷◌, ◌++◌, codes, OnOk, Result, Ok, Err, map, ap, ◌∙◌, append_assoc, [], sym, subst}
+use Rattle.std.proofs.Common.{◌≡◌, ◌∷◌, ◌++◌, codes, Result, Ok, Err, ap, ◌∙◌, append_assoc, []}
 use Rattle.gc_json.specs.Writing.{Adds, tokens_of}
 use Rattle.json.specs.Token.{Token, key}
 use Rattle.json.specs.Written.{Written}

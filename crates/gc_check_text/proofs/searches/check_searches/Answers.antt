@@ -1,8 +1,7 @@
-use Rattle.std.proofs.Common.{arith}
 use Rattle.gc_cert_text.specs.Certificates.{told}
 use Rattle.gc_cert_text.specs.FormedSearches.{IsFormedSearch}
 use Rattle.gc_check_text.specs.Checked.{IsSound}
-use Rattle.gc_check_text.proofs.Places.{all_taken, at_place, one_more}
+use Rattle.gc_check_text.proofs.Places.{at_place, one_more}
 use Rattle.gc_check_text.proofs.Verdicts.{refusal_told}
 use Rattle.gc_check_text.proofs.searches.check_searches.Goals as goal
 
