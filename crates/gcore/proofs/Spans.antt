@@ -138,12 +138,12 @@ module _ {names : Names} where
   both_span l m = record {
     up = (rises_both (rising l) (rising m)).rises;
     spans = λ p q ts v s h. record {
-        mid = s.between.token;
-        first = l.spans p s.between s.early v.0 s.before (names_left names ts s.early s.late s.whole h);
-        second = m.spans s.between q s.late v.1 s.behind (names_right names ts s.early s.late s.whole h);
-        low = l.up p s.between s.early v.0 s.before;
-        high = m.up s.between q s.late v.1 s.behind;
-      };
+      mid = s.between.token;
+      first = l.spans p s.between s.early v.0 s.before (names_left names ts s.early s.late s.whole h);
+      second = m.spans s.between q s.late v.1 s.behind (names_right names ts s.early s.late s.whole h);
+      low = l.up p s.between s.early v.0 s.before;
+      high = m.up s.between q s.late v.1 s.behind;
+    };
   }
 
   pub before_span : {A B : Type 0} {L : Lang A} {M : Lang B} {P : ℕ → A → ℕ → Type 0} → Wide P → Spans names L P → Rises M → Spans names (L ◂ M) P

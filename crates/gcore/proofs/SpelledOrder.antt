@@ -110,10 +110,10 @@ module _ (names : Names) where
   element_wide : Wide ElementIn
   element_wide = record {
     wider = λ low from upto high e l h n. record {
-        mid = n.mid;
-        named = if_wider names low from n.mid n.mid e.name l (omega arith) n.named;
-        properties = order_wider names n.mid n.mid upto high (row e.properties) (omega arith) h n.properties;
-      };
+      mid = n.mid;
+      named = if_wider names low from n.mid n.mid e.name l (omega arith) n.named;
+      properties = order_wider names n.mid n.mid upto high (row e.properties) (omega arith) h n.properties;
+    };
   }
 
   labels_rise : Rises labels
@@ -187,9 +187,11 @@ module _ (names : Names) where
       (both_span (anywhere (rises_perhaps count_rises)) (both_span (name_spans) (both_span (anywhere angled_rises) (perhaps_span (behind_span name_wide rises_one (name_spans))))))
       (λ from upto v up h.
       let inner = h.second in
-      let late = inner.second in
-      (inner.mid, name_wider names from h.mid inner.mid inner.mid v.1.0 h.low (omega arith) inner.first,
-      if_wider names inner.mid late.mid upto upto v.1.1.1 late.low (omega arith) (if_name late.mid upto v.1.1.1 late.second))))
+      let late = inner.second in (
+        inner.mid,
+        name_wider names from h.mid inner.mid inner.mid v.1.0 h.low (omega arith) inner.first,
+        if_wider names inner.mid late.mid upto upto v.1.1.1 late.low (omega arith) (if_name late.mid upto v.1.1.1 late.second),
+      )))
       (either_span
       (made_spans BodyIn (both_span (behind_span name_wide rises_one (name_spans)) (anywhere angled_rises)) (λ from upto v up h. name_wider names from from h.mid upto v.0 (omega arith) h.high h.first))
       (made_spans BodyIn (both_span (behind_span name_wide rises_one (name_spans)) (anywhere (rises_each labels_rise))) (λ from upto v up h. name_wider names from from h.mid upto v.0 (omega arith) h.high h.first))))
