@@ -75,11 +75,7 @@ module _ (query : List ℕ) (pairs : List Pair) where
   room_holds told gs file room h a b = λ x here graphs first. within told x graphs (h x here) a b first
     where
       within : (o : Option Files) (x : ℕ) (graphs : List PropertyGraph)
-<<<<<<< HEAD
           → IsSomeAnd o (λ files. (task : Task) (text : List ℕ) → outcome (Some (Run query pairs)) files ≡ Ok task → MayBegin task text → length text ≤ x)
-=======
-          → IsSomeAnd o (λ files. (r : Request) (graphs : List PropertyGraph) → IsAsked (outcome (Some (Run query pairs)) files) r → PrintsFirst r graphs → length (texts r.style graphs) ≤ x)
->>>>>>> wip-make
           → IfSome o (λ files. graphs_due files [] pairs ≡ Ok gs) → IfSome o (λ files. query_file_due names files query ≡ Ok file)
           → PrintsFirst (over gs file) graphs → length (texts style.Text graphs) ≤ x
       within None x graphs holds c d first = absurd holds
