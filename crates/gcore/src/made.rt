@@ -6,6 +6,7 @@ ghost use Rattle.gcore.specs.Endings.{Change, HoldsMade, RunsMade};
 ghost use Rattle.gcore.specs.MakeQueries.{made_name, make_query};
 ghost use Rattle.gcore.specs.Outcomes.{Request, free_above, make_due};
 ghost use Rattle.gcore.specs.QueryFiles.{placed, query_file_of};
+ghost use Rattle.gcore.specs.declared.stop.Stop.TheVariants.{OutOfMemory};
 
 use crate::graphs::add_loaded;
 use crate::query_file::query_file;
@@ -111,9 +112,15 @@ fn made_query(alloc: Global) -> Result<Checked, Memory>
     names.push(made_name(alloc)?)?;
     match query_file(alloc, MAKE_QUERY, &names) {
         Ok(checked) => Ok(checked),
-        Err(Stop::OutOfMemory) => Err(Memory),
-        Err(_) => unreachable!(),
+        Err(stop) => Err(want_of(stop)),
     }
+}
+
+// Want of memory, the one thing that stops the reading of a query that is one.
+fn want_of(_stop: Stop) -> Memory
+    requires { _stop ≡ OutOfMemory }
+{
+    Memory
 }
 
 // The name of the made graph.
