@@ -19,18 +19,20 @@ returns-in-Ok-clause-outcome g c =
 
 pub returns-in-Err-Cert-clause-outcome : goal.returns-in-Err-Cert-clause-outcome
 returns-in-Err-Cert-clause-outcome g c =
-    let answer = Err (check.Cert c.in-Err-Cert.refusal) in (
+    let answer = Err (check.Cert c.in-Err-Cert.refusal) in
+    let out : Change = record { faults_before = g.S.Sink.faults c.args.out.now; faults_after = g.S.Sink.faults c.args.out.now; taken_before = g.S.Sink.taken c.args.out.now; taken_after = g.S.Sink.taken c.args.out.now } in (
       tt,
-      checked_as c.args.document.now (g.F.Folder.files c.args.folder.now) c.in_ok-bytes.bytes c.in_ok-bytes.ensures.outcome answer _ _ _
+      checked_as c.args.document.now (g.F.Folder.files c.args.folder.now) c.in_ok-bytes.bytes c.in_ok-bytes.ensures.outcome answer (g.F.Folder.faults c.args.folder.now) (g.F.Folder.faults c.read_file.new.folder) out
           (subst (λ (bs : List ℕ). IsOutcome bs answer) c.as_slice.ensures (subst (λ r. IsOutcome c.as_slice.result.now (Err r)) c.in-Err-Cert.field-0-is c.in-Err-Cert.ensures.outcome)),
       refl,
     )
 
 pub returns-in-Err-Rejected-clause-outcome : goal.returns-in-Err-Rejected-clause-outcome
 returns-in-Err-Rejected-clause-outcome g c =
-    let answer = Err (check.Rejected c.in-Err-Rejected.search c.in-Err-Rejected.rule) in (
+    let answer = Err (check.Rejected c.in-Err-Rejected.search c.in-Err-Rejected.rule) in
+    let out : Change = record { faults_before = g.S.Sink.faults c.args.out.now; faults_after = g.S.Sink.faults c.args.out.now; taken_before = g.S.Sink.taken c.args.out.now; taken_after = g.S.Sink.taken c.args.out.now } in (
       tt,
-      checked_as c.args.document.now (g.F.Folder.files c.args.folder.now) c.in_ok-bytes.bytes c.in_ok-bytes.ensures.outcome answer _ _ _
+      checked_as c.args.document.now (g.F.Folder.files c.args.folder.now) c.in_ok-bytes.bytes c.in_ok-bytes.ensures.outcome answer (g.F.Folder.faults c.args.folder.now) (g.F.Folder.faults c.read_file.new.folder) out
           (subst (λ (bs : List ℕ). IsOutcome bs answer) c.as_slice.ensures (subst (λ r. IsOutcome c.as_slice.result.now (Err r)) c.in-Err-Rejected.field-0-is c.in-Err-Rejected.ensures.outcome)),
       refl,
     )
