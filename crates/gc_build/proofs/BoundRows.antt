@@ -199,5 +199,5 @@ first_is_met db (BlockOf none reads) row h part is = absurd is
 first_is_met db (BlockOf (more first later) reads) row h part is =
     let all = first ∷ items later in
     let keeps = with_keeps db all reads first (IsRowOfPart db [] reads first) (λ r k. part_meets db all reads first (contains_here first (items later)) r k) later
-        (λ p m. contains_later first (items later) p m) row h in
+    (λ p m. contains_later first (items later) p m) row h in
     subst (λ (p : Tree APart). AllByRecursion (Satisfies db row) (atoms_of p)) is keeps.meets

@@ -233,7 +233,7 @@ module _ (s : Setting) (r : Recipe) (ps : Patterns) (next : ℕ) (fits : Fits s 
       let same_id : met.edge.id ≡ id = ap edge_number (same_Some (datum.Edge met.edge.id) (datum.Edge id) (sym met.is ∙ bound)) in
       let coherent = standing.coherent g network.graph among (at_number s.graphs p.graph network.graph on.number) in
       let same = same_ends g network.graph coherent id e.from e.to met.edge.from met.edge.to (edge_is g (graph_is g among) id e there)
-          (subst (λ n. shape_at network.graph n ≡ Some (EdgeShape met.edge.from met.edge.to)) same_id (edge_shape network.graph on.graph met.edge met.among)) in
+      (subst (λ n. shape_at network.graph n ≡ Some (EdgeShape met.edge.from met.edge.to)) same_id (edge_shape network.graph on.graph met.edge met.among)) in
       ⊎_elim
       (λ k. (
         has_node r c p.left p.left_place row e.from (k.0 ∙ ap (λ n. Some (datum.Node n)) (sym same.0)),

@@ -137,9 +137,12 @@ module _ (m : Makings) (places : List Place) where
 
   place_variable : (q : Place) → Contains places q → (p : Place) × Contains places p × (p.var ≡ q.var) × Contains variables (variable_at m p)
   place_variable q h =
-      let has = firsts_have [] places q h in
-      (has.place, ⊎_elim (λ k. absurd (omega (arith, k.1))) (λ k. k) (firsts_there [] places has.place has.among), has.var,
-      to_map (variable_at m) (of_kind kind.Node firsts ++ of_kind kind.Edge firsts ++ of_kind kind.Path firsts) has.place (to_kind has.place has.among))
+      let has = firsts_have [] places q h in (
+        has.place,
+        ⊎_elim (λ k. absurd (omega (arith, k.1))) (λ k. k) (firsts_there [] places has.place has.among),
+        has.var,
+        to_map (variable_at m) (of_kind kind.Node firsts ++ of_kind kind.Edge firsts ++ of_kind kind.Path firsts) has.place (to_kind has.place has.among),
+      )
 
 -- what is known of a MATCH that breaks no rule: its places of a name have one sort; its links are patterns of its block; what its
 -- patterns have is bound, by a name of theirs; and what is found is the walk at some place
@@ -485,8 +488,11 @@ module _ (s : Scope) (items : Tree (RowOf AnItem)) (m : Making) (links : List Li
             by false is = refl
             by true is =
                 let p = found_pattern a k edge e x n is in
-                absurd (cc (free, ap mk.is_bound p.var ∙ pattern_bound a p (variable_of s p.link.name) (contains_later (variable_of s p.left) (variable_of s p.link.name ∷ variable_of s p.right ∷ []) (variable_of s p.link.name)
-                (contains_here (variable_of s p.link.name) (variable_of s p.right ∷ [])))))
+                absurd (cc (
+                  free,
+                  ap mk.is_bound p.var ∙ pattern_bound a p (variable_of s p.link.name) (contains_later (variable_of s p.left) (variable_of s p.link.name ∷ variable_of s p.right ∷ []) (variable_of s p.link.name)
+                      (contains_here (variable_of s p.link.name) (variable_of s p.right ∷ []))),
+                ))
 
         later_not : (c : Site) → Contains sites c → c.kind ≡ kind.Edge → (x : Named) → c.name ≡ Some x → has_use m.matched x.name ≡ false → (f : Use) → first_use m.made x.name ≡ Some f → f.token ≡ x.token
         later_not c i is x n fresh f first =
@@ -547,8 +553,9 @@ module _ (s : Scope) (items : Tree (RowOf AnItem)) (m : Making) (links : List Li
       → IsUnbroken (each (loose_item m.matched links) some) → AllByRecursion (AreLinked block recipe) (all_of (item_chains s) some)
   items_linked recipe same tree.none f g n h = tt
   items_linked recipe same (tree.more (tree.GraphItem graph) some) f g n h = items_linked recipe same some f g n h.1
-  items_linked recipe same (tree.more (tree.ChainItem parts changes condition) some) f g n h =
-      (chain_linked parts (chain_of s parts condition) refl recipe same (λ a k. f a (Contains-append_left (chain_sites s None parts) (sites_of s some) a k))
-      (λ q k. g q (Contains-append_left (chain_places s None parts) (places_of s some) q k)) (λ k l. n k (Contains-append_left (all_of part_stored parts) (all_of item_stored some) k l)) h.0,
-      items_linked recipe same some (λ a k. f a (Contains-append_right (chain_sites s None parts) (sites_of s some) a k))
-      (λ q k. g q (Contains-append_right (chain_places s None parts) (places_of s some) q k)) (λ k l. n k (Contains-append_right (all_of part_stored parts) (all_of item_stored some) k l)) h.1)
+  items_linked recipe same (tree.more (tree.ChainItem parts changes condition) some) f g n h = (
+    chain_linked parts (chain_of s parts condition) refl recipe same (λ a k. f a (Contains-append_left (chain_sites s None parts) (sites_of s some) a k))
+        (λ q k. g q (Contains-append_left (chain_places s None parts) (places_of s some) q k)) (λ k l. n k (Contains-append_left (all_of part_stored parts) (all_of item_stored some) k l)) h.0,
+    items_linked recipe same some (λ a k. f a (Contains-append_right (chain_sites s None parts) (sites_of s some) a k))
+        (λ q k. g q (Contains-append_right (chain_places s None parts) (places_of s some) q k)) (λ k l. n k (Contains-append_right (all_of part_stored parts) (all_of item_stored some) k l)) h.1,
+  )

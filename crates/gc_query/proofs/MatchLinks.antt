@@ -80,24 +80,24 @@ module _ (p : List ℕ → Bool) where
     where
       low : (k : ℕ) → (k < length ((xs ++ ys) ++ zs)) × (p (get_or ((xs ++ ys) ++ zs) k x) ≡ true) × ((j : ℕ) → j < k → p (get_or ((xs ++ ys) ++ zs) j x) ≡ false) → length xs ≤ k
       low k at = elim (ltb k (length xs)) as (λ b. ltb k (length xs) ≡ b → length xs ≤ k) [
-          | true ↦ λ e.
-              let inside : k < length xs = grind (arith, nat_tests) in
-              let long = length-append (xs ++ ys) zs in
-              let more = length-append xs ys in
-              let here : get_or ((xs ++ ys) ++ zs) k x ≡ get_or xs k x = get_or_append_left (xs ++ ys) zs x k (omega arith) ∙ get_or_append_left xs ys x k inside in
-              absurd (cc (at.1, ap p here ∙ none (get_or xs k x) (Contains-get_or xs k x inside)))
-          | false ↦ λ e. grind (arith, nat_tests)
-        ] refl
+        | true ↦ λ e.
+            let inside : k < length xs = grind (arith, nat_tests) in
+            let long = length-append (xs ++ ys) zs in
+            let more = length-append xs ys in
+            let here : get_or ((xs ++ ys) ++ zs) k x ≡ get_or xs k x = get_or_append_left (xs ++ ys) zs x k (omega arith) ∙ get_or_append_left xs ys x k inside in
+            absurd (cc (at.1, ap p here ∙ none (get_or xs k x) (Contains-get_or xs k x inside)))
+        | false ↦ λ e. grind (arith, nat_tests)
+      ] refl
 
       high : (k : ℕ) → (k < length ((xs ++ ys) ++ zs)) × (p (get_or ((xs ++ ys) ++ zs) k x) ≡ true) × ((j : ℕ) → j < k → p (get_or ((xs ++ ys) ++ zs) j x) ≡ false) → Contains (xs ++ ys) x
           → k < length (xs ++ ys)
       high k at there = elim (ltb there.0 k) as (λ b. ltb there.0 k ≡ b → k < length (xs ++ ys)) [
-          | true ↦ λ e.
-              let before : there.0 < k = grind (arith, nat_tests) in
-              let here : get_or ((xs ++ ys) ++ zs) there.0 x ≡ x = get_or_append_left (xs ++ ys) zs x there.0 there.1 ∙ there.2 in
-              absurd (cc (t, sym (ap p here) ∙ at.2 there.0 before))
-          | false ↦ λ e. let inside = there.1 in grind (arith, nat_tests)
-        ] refl
+        | true ↦ λ e.
+            let before : there.0 < k = grind (arith, nat_tests) in
+            let here : get_or ((xs ++ ys) ++ zs) there.0 x ≡ x = get_or_append_left (xs ++ ys) zs x there.0 there.1 ∙ there.2 in
+            absurd (cc (t, sym (ap p here) ∙ at.2 there.0 before))
+        | false ↦ λ e. let inside = there.1 in grind (arith, nat_tests)
+      ] refl
 
 -- a variable that has its first place in an OPTIONAL block has none in a later one
 pub shared : (mandatory before own rest all : List Use) (name : List ℕ) (u : Use) (upto : ℕ) → all ≡ (before ++ own) ++ rest → length mandatory ≤ length before → length (before ++ own) ≤ upto
@@ -107,7 +107,7 @@ shared mandatory before own rest all name u upto is early late fresh there same 
     let p : List ℕ → Bool = same_name u.name in
     let passes : p found.0.name ≡ true = (bytes_decides u.name found.0.name).1 (same ∙ sym found.2) in
     let names = between p (use_names before) (use_names own) found.0.name (to_map (λ (v : Use). v.name) own found.0 found.1) passes none_before
-        (use_names rest) (first_place (use_names all) u.name) (ap (position p) (sym (ap use_names is ∙ names_of before own rest))) in
+    (use_names rest) (first_place (use_names all) u.name) (ap (position p) (sym (ap use_names is ∙ names_of before own rest))) in
     inside (first_place (use_names all) u.name) names.0 names.1 (long before names.2) (longer before own names.3)
     (not_broken (is_between (length mandatory) upto (first_place (use_names all) u.name)) _ u.token h)
   where

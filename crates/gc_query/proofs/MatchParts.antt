@@ -87,7 +87,7 @@ module _ (s : Scope) (names : List (List ℕ)) (tokens : List ℕ) (apart : AreA
       let stands = of_member (AtomStands s places (all_of located_tokens patterns)) (atoms_of s patterns) any.0 (atoms_stand s patterns) any.1 in
       let one = of_member (StandsOn s places (all_of located_tokens patterns) any.0.graph) (variables_of any.0.what) x.0 stands x.1 in
       let named = place_of_name n m places (all_of located_tokens patterns) (λ u g k. among.uses u (place_used s patterns g u k)) among.unnamed any.0.graph
-          (subst (StandsOn s places (all_of located_tokens patterns) any.0.graph) (same_var x.0 (variable_of s n) x.2) one) in
+      (subst (StandsOn s places (all_of located_tokens patterns) any.0.graph) (same_var x.0 (variable_of s n) x.2) one) in
       subst (λ k. has_use (all_of located_uses patterns) k ≡ true) named.2 (there_used (all_of located_uses patterns) named.0 (place_used s patterns any.0.graph named.0 named.1))
 
   -- what each place of some breaks

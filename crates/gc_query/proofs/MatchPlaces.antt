@@ -81,12 +81,13 @@ module _ (s : Scope) where
   property_stands us ts graph x kind tree.none h = tt
   property_stands us ts graph x kind (tree.more (tree.PropertyUse token property value) properties) h =
       let u = use_at role.Property value in
-      let vs = all_of property_uses properties in
-      (record {
-        graph_is = refl;
-        variables = (wider us (u ∷ vs) x h, (named u (Contains-append_right us (u ∷ vs) u (contains_here u vs)) refl, tt));
-      },
-      fine_weaker (Stands s (us ++ vs) ts) (Stands s (us ++ (u ∷ vs)) ts) (λ y k. inside us vs u y k) graph _ (property_stands us ts graph x kind properties h))
+      let vs = all_of property_uses properties in (
+        record {
+          graph_is = refl;
+          variables = (wider us (u ∷ vs) x h, (named u (Contains-append_right us (u ∷ vs) u (contains_here u vs)) refl, tt));
+        },
+        fine_weaker (Stands s (us ++ vs) ts) (Stands s (us ++ (u ∷ vs)) ts) (λ y k. inside us vs u y k) graph _ (property_stands us ts graph x kind properties h),
+      )
     where
       wider : (us vs : List Use) (y : Sym) → Stands s us ts y → Stands s (us ++ vs) ts y
       wider us vs y (named w m is) = named w (Contains-append_left us vs w m) is
@@ -101,9 +102,10 @@ module _ (s : Scope) where
       inside us vs u y (unnamed t m is) = unnamed t m is
 
   node_stands : (graph : ℕ) (e : Tree AnElement) → AllByRecursion (IsFine (Stands s (element_uses role.Node e) (element_tokens e)) graph) (node_atoms s graph e)
-  node_stands graph (tree.Element token name labels properties) =
-      (record { graph_is = refl; variables = (own role.Node token name (all_of property_uses properties), tt) },
-      property_stands (use_if role.Node name) (unnamed_token token name) graph (variable_or s token name) kind.Node properties (alone role.Node token name))
+  node_stands graph (tree.Element token name labels properties) = (
+    record { graph_is = refl; variables = (own role.Node token name (all_of property_uses properties), tt) },
+    property_stands (use_if role.Node name) (unnamed_token token name) graph (variable_or s token name) kind.Node properties (alone role.Node token name),
+  )
     where
       alone : (role : Role) (token : ℕ) (name : Option Named) → Stands s (use_if role name) (unnamed_token token name) (variable_or s token name)
       alone role token None = unnamed token (contains_here token []) refl
@@ -111,10 +113,11 @@ module _ (s : Scope) where
 
   edge_stands : (graph : ℕ) (P : Sym → Type 0) (x y : Sym) (way : Direction) (e : Tree AnElement) → P x → P y
       → ((z : Sym) → Stands s (element_uses role.Edge e) (element_tokens e) z → P z) → AllByRecursion (IsFine P graph) (edge_atoms s graph x y way e)
-  edge_stands graph P x y way (tree.Element token name labels properties) px py f =
-      (record { graph_is = refl; variables = (px, (f _ (own role.Edge token name (all_of property_uses properties)), (py, tt))) },
-      fine_weaker _ P f graph _
-      (property_stands (use_if role.Edge name) (unnamed_token token name) graph (variable_or s token name) kind.Edge properties (alone role.Edge token name)))
+  edge_stands graph P x y way (tree.Element token name labels properties) px py f = (
+    record { graph_is = refl; variables = (px, (f _ (own role.Edge token name (all_of property_uses properties)), (py, tt))) },
+    fine_weaker _ P f graph _
+        (property_stands (use_if role.Edge name) (unnamed_token token name) graph (variable_or s token name) kind.Edge properties (alone role.Edge token name)),
+  )
     where
       alone : (role : Role) (token : ℕ) (name : Option Named) → Stands s (use_if role name) (unnamed_token token name) (variable_or s token name)
       alone role token None = unnamed token (contains_here token []) refl
@@ -128,9 +131,22 @@ module _ (s : Scope) where
       → AllByRecursion (IsFine P graph) (path_atom s graph x y body ∷ [])
   path_stands graph P x y (tree.Reach regex views) px py f = (record { graph_is = refl; variables = (px, (py, tt)) }, tt)
   path_stands graph P x y (tree.Found k path regex views cost) px py f =
-      let p = use_at role.Found path in
-      (record { graph_is = refl; variables = (px, (f p (contains_here p (use_if role.Cost cost)), (py,
-      cost_stands P cost (λ u m. f u (contains_later p (use_if role.Cost cost) u m))))) }, tt)
+      let p = use_at role.Found path in (
+        record {
+          graph_is = refl;
+          variables = (
+            px,
+            (
+              f p (contains_here p (use_if role.Cost cost)),
+              (
+                py,
+                cost_stands P cost (λ u m. f u (contains_later p (use_if role.Cost cost) u m)),
+              ),
+            ),
+          );
+        },
+        tt,
+      )
   path_stands graph P x y (tree.All path regex views) px py f =
       let p = use_at role.All path in (record { graph_is = refl; variables = (px, (f p (contains_here p []), (py, tt))) }, tt)
   path_stands graph P x y (tree.Stored path labels) px py f =
