@@ -3,6 +3,8 @@ mod BasicsMade
 mod BuiltRests
 mod CostLaws
 mod DistinctVariables
+mod EvaluationLaws
+mod ExplainedViews
 mod FreeWords
 mod Heads
 mod OneOutcome

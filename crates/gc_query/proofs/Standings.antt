@@ -5,7 +5,7 @@ use Rattle.std.proofs.lemmas.List.{length-append}
 use Rattle.std.proofs.lemmas.List.Elements.{Contains-append_cases, Contains-append_left, Contains-append_right}
 use Rattle.std.specs.List.{AllByRecursion, Contains}
 use Rattle.std.specs.Map.{lookup}
-use Rattle.gc_catalog.specs.NamedGraphs.{NamedGraphs, AllCoherent, AreBelow, IsCatalog, first_graphs, with_local}
+use Rattle.gc_catalog.specs.NamedGraphs.{NamedGraphs, AllCoherent, AreBelow, IsCatalog, first_graphs}
 use Rattle.gc_rows.proofs.Members.{cons_cases, contains_here, contains_later, each_member, from_map, of_member, to_map}
 use Rattle.gc_sets.specs.Origins.{AreStanding, ComesFrom}
 use Rattle.gc_sets.proofs.Itself.{coherent_with_itself}
@@ -14,6 +14,7 @@ use Rattle.gc_sets.proofs.ShapesOf.{Of, edge_key, node_key, of_edge, of_node, of
 use Rattle.gc_spec.specs.Coherence.{AreCoherent, AreSame, ElementShape, NodeShape, EdgeShape, PathShape, shape_at, shapes_of}
 use Rattle.gc_spec.specs.PropertyGraph.{PropertyGraph, Node, Edge, Path, edge_ids, ids_of, node_ids, path_ids}
 use Rattle.gc_query.specs.Answered.{IsLonger}
+use Rattle.gc_query.specs.Steps.{with_named}
 
 -- an identity that is among those of a graph stands for something there
 shape_there : (shapes : List (ℕ × ElementShape)) (id : ℕ) → Contains (map (λ e. e.0) shapes) id → (s : ElementShape) × (lookup (λ other. other == id) shapes ≡ Some s)
@@ -137,15 +138,35 @@ pub longer_by : (before after : NamedGraphs) (next : ℕ) → before.next ≤ ne
 longer_by before after next h same =
     subst (IsLonger before) (sym same) (record { names = take_same before.names; graphs = take_same before.graphs; named = omega arith; count = omega arith; later = h })
 
-pub longer_with : (before after : NamedGraphs) (next : ℕ) (g : PropertyGraph) → before.next ≤ next → after ≡ with_local (record before { next = next }) g → IsLonger before after
-longer_with before after next g h same =
-    subst (IsLonger before) (sym same) (record {
-      names = take_all before.names (None ∷ []);
-      graphs = take_all before.graphs (g ∷ []);
-      named = omega (arith, length-append before.names (None ∷ []));
-      count = omega (arith, length-append before.graphs (g ∷ []));
-      later = h;
-    })
+pub longer_with : (before after : NamedGraphs) (next : ℕ) (word : Option (List ℕ)) (g : PropertyGraph) → before.next ≤ next → after ≡ with_named (record before { next = next }) word g → IsLonger before after
+longer_with before after next word g h same = subst (IsLonger before) (sym same) (by word)
+  where
+    more : (name : Option (List ℕ)) → IsLonger before (record { names = before.names ++ name ∷ []; graphs = before.graphs ++ g ∷ []; next = next })
+    more name =
+        record {
+          names = take_all before.names (name ∷ []);
+          graphs = take_all before.graphs (g ∷ []);
+          named = omega (arith, length-append before.names (name ∷ []));
+          count = omega (arith, length-append before.graphs (g ∷ []));
+          later = h;
+        }
+
+    by : (name : Option (List ℕ)) → IsLonger before (with_named (record before { next = next }) name g)
+    by None = more None
+    by (Some w) = more (Some w)
+
+-- the graphs and the names of a catalog with a graph more, which has a name or none
+pub graphs_with : (c : NamedGraphs) (word : Option (List ℕ)) (g : PropertyGraph) → (with_named c word g).graphs ≡ c.graphs ++ g ∷ []
+graphs_with c None g = refl
+graphs_with c (Some w) g = refl
+
+pub names_with : (c : NamedGraphs) (word : Option (List ℕ)) (g : PropertyGraph) → (with_named c word g).names ≡ c.names ++ word ∷ []
+names_with c None g = refl
+names_with c (Some w) g = refl
+
+pub next_with : (c : NamedGraphs) (word : Option (List ℕ)) (g : PropertyGraph) → (with_named c word g).next ≡ c.next
+next_with c None g = refl
+next_with c (Some w) g = refl
 
 pub longer_yet : (a b c : NamedGraphs) → IsLonger a b → IsLonger b c → IsLonger a c
 longer_yet a b c h k =

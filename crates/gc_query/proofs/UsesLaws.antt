@@ -113,13 +113,13 @@ map_both f [] ys = refl
 map_both f (x ∷ xs) ys = ap (λ zs. f x ∷ zs) (map_both f xs ys)
 
 module _ (head : ast.Tree ast.AHead) (number : ℕ) where
-  uses_both : (xs ys : List ViewOn) → uses_of head number (xs ++ ys) ≡ uses_of head number xs ++ uses_of head number ys
+  pub uses_both : (xs ys : List ViewOn) → uses_of head number (xs ++ ys) ≡ uses_of head number xs ++ uses_of head number ys
   uses_both xs ys = ap (map (used_as head)) (filter_both (λ u. u.view == number) xs ys) ∙ map_both (used_as head) (filter (λ u. u.view == number) xs) (filter (λ u. u.view == number) ys)
 
-  one_use : (u : ViewOn) → (u.view == number) ≡ true → uses_of head number (u ∷ []) ≡ used_as head u ∷ []
+  pub one_use : (u : ViewOn) → (u.view == number) ≡ true → uses_of head number (u ∷ []) ≡ used_as head u ∷ []
   one_use u h = ap (λ t. map (used_as head) (cond t (u ∷ []) [])) h
 
-  no_use : (u : ViewOn) → (u.view == number) ≡ false → uses_of head number (u ∷ []) ≡ []
+  pub no_use : (u : ViewOn) → (u.view == number) ≡ false → uses_of head number (u ∷ []) ≡ []
   no_use u h = ap (λ t. map (used_as head) (cond t (u ∷ []) [])) h
 
   module _ (s : Scope) (graphs : List PropertyGraph) where
@@ -172,7 +172,7 @@ module _ (heads : List (ast.Tree ast.AHead)) (k : ℕ) (head : ast.Tree ast.AHea
   place : 0 + length (take k heads) ≡ k
   place = omega (arith, length_taken heads k head at)
 
-  turn_up_to : in_turn 0 (take (k + 1) heads) uses ≡ in_turn 0 (take k heads) uses ++ uses_of head k uses
+  pub turn_up_to : in_turn 0 (take (k + 1) heads) uses ≡ in_turn 0 (take k heads) uses ++ uses_of head k uses
   turn_up_to =
       ap (λ hs. in_turn 0 hs uses) (take_next heads k head at)
       ∙ (turn_both 0 (take k heads) (head ∷ []) uses

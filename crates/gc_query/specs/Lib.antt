@@ -2,8 +2,11 @@ pub mod Answered
 pub mod Basics
 pub mod Built
 pub mod Costs
+pub mod Evaluations
 pub mod Expressions
 pub mod InOrder
+pub mod Logged
+pub mod Logs
 pub mod Outcomes
 pub mod Queries
 pub mod Segments

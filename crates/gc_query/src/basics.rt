@@ -1,4 +1,4 @@
-ghost use Rattle.std.specs.Prelude.{◌≡◌, ◌≤◌, []};
+ghost use Rattle.std.specs.Prelude.{◌≡◌, ◌≤◌, [], OnOk};
 ghost use Rattle.gc_alg.specs.Tables.{IsTableOfBlock};
 ghost use Rattle.gc_alg.specs.Views.{block_tree};
 ghost use Rattle.gc_ast.specs.QueryViews.{basic_tree};
@@ -8,10 +8,14 @@ ghost use Rattle.gc_walks.specs.Databases.{AreOnGraphs};
 ghost use Rattle.gc_query.specs.Answered.{ComesOf, IsAnswered, Rises, names_in, outcome_of, scope_in};
 ghost use Rattle.gc_query.specs.Basics.{Comes, DenotesBasic};
 ghost use Rattle.gc_query.specs.Built.{IsBasicBuilt};
+ghost use Rattle.gc_query.specs.Evaluations.{EvaluatesBasic};
+ghost use Rattle.gc_query.specs.Logs.{Tells};
 ghost use Rattle.gc_sets.specs.Origins.{AreStanding};
 
 use crate::costs::{costs_of, first_past};
+use crate::explaining::tell;
 use crate::fault::{Fault, QueryRefusal};
+use crate::log::Told;
 use crate::made::Made;
 use crate::segments::segments_used;
 use crate::session::Session;
@@ -23,6 +27,7 @@ use gc_base::Steps;
 use gc_build::{Built, Refusal, construct};
 use gc_build_numbers::Setting;
 use gc_build_reading::{found_variables, recipe};
+use gc_catalog::Catalog;
 use gc_lower::lower_match;
 use gc_ppg::GraphList;
 use gc_prod::SegmentTable;
@@ -30,12 +35,14 @@ use gc_rows::Table;
 use std::sync::ledger::Ledger;
 
 /// What a CONSTRUCT comes to, where the next identity is `next`. It has to be built, and the graphs have to stand
-/// together.
+/// together; their names are those of a catalog.
 pub(crate) fn basic_made<L: Ledger>(
     session: &Session<'_>,
+    named: &Catalog,
     graphs: &GraphList,
     basic: &Basic,
     next: u64,
+    told: &mut Told,
     steps: &mut Steps<L>,
 ) -> Result<Made, QueryRefusal>
     requires built { IsBasicBuilt (scope_in session.now) (basic_tree (names_in session.now) basic.now) }
@@ -44,10 +51,13 @@ pub(crate) fn basic_made<L: Ledger>(
     ensures rises { Rises next result }
     ensures comes { ComesOf graphs.now next result }
     ensures due { IsAnswered (DenotesBasic (scope_in session.now) (record { graphs = graphs.now; next = next }) (basic_tree (names_in session.now) basic.now)) result }
+    ensures told { OnOk result (Tells (scope_in session.now)
+        (EvaluatesBasic (scope_in session.now) named.now.names graphs.now (basic_tree (names_in session.now) basic.now)) told.old told.new) }
 {
     let lowered = lower_match(session.alloc, session.checked, basic)?;
     let segments = segments_used(session, graphs, &lowered.block, steps)?;
     let table = table_of(session.alloc, graphs, &segments, &lowered.block, steps)?;
+    tell(session, named, graphs, &lowered.block, told)?;
     let costs = costs_of(session.alloc, session.checked, basic)?;
     if let Some(past) = first_past(&costs, table.rows().as_slice()) {
         return Err(QueryRefusal::Fault(Fault::CostPastRange {

@@ -1,19 +1,18 @@
-ghost use Rattle.std.specs.Prelude.{◌≡◌, true, IfOk, OnErr, OnOk};
-ghost use Rattle.std.specs.List.{AllByRecursion};
 ghost use Rattle.gc_ast.specs.PatternViews.{named};
 ghost use Rattle.gc_ast.specs.QueryViews.{query_tree};
 ghost use Rattle.gc_ast.specs.Trees.{View};
-ghost use Rattle.gc_catalog.specs.NamedGraphs.{AreBelow};
 ghost use Rattle.gc_lower.specs.Namings.{scope_of};
 ghost use Rattle.gc_query.specs.Built.{IsBuilt};
-ghost use Rattle.gc_query.specs.Steps.{IsStep, free_word, with_named};
-ghost use Rattle.gc_spec.specs.Coherence.{AreCoherent};
+ghost use Rattle.gc_query.specs.Logged.{IsLogged};
+ghost use Rattle.gc_query.specs.Steps.{IsStep};
 
 use crate::fault::QueryRefusal;
+use crate::log::RunLog;
+use crate::naming::stand_named;
 use crate::steps::answered;
 use gc_ast::Query;
-use gc_base::{Duplicate, Memory, Name, NameAt, Steps};
-use gc_catalog::{AddRefusal, Catalog};
+use gc_base::{Memory, NameAt, Steps};
+use gc_catalog::Catalog;
 use gc_ppg::Graph;
 use gc_sorts::Checked;
 use std::alloc::Global;
@@ -26,69 +25,27 @@ pub(crate) fn view_step<L: Ledger>(
     name: NameAt,
     query: &Query,
     catalog: &mut Catalog,
+    log: &mut RunLog,
     steps: &mut Steps<L>,
 ) -> Result<Option<Graph>, QueryRefusal>
     requires { IsBuilt (scope_of checked.now 0) (query_tree checked.now.file.names query.now) }
-    ensures { IsStep (scope_of checked.now 0) catalog.old catalog.new
+    ensures step { IsStep (scope_of checked.now 0) catalog.old catalog.new
         (View (named checked.now.file.names name) (query_tree checked.now.file.names query.now)) result }
+    ensures log { IsLogged (scope_of checked.now 0) catalog.old
+        (View (named checked.now.file.names name) (query_tree checked.now.file.names query.now)) log.old log.new result }
 {
-    let made = answered(alloc, checked, query, catalog, steps)?;
+    let mut told = log.behind();
+    let made = answered(alloc, checked, query, catalog, &mut told, steps)?;
+    let lines = log.lines().len();
+    log.take(told)?;
     let (graphs, free) = (catalog.graphs().len(), catalog.next());
     catalog.set_next(made.next);
-    match add_view(checked, name, made.graph, catalog) {
+    match stand_named(checked, name, made.graph, catalog) {
         Ok(()) => Ok(None),
         Err(Memory) => {
             catalog.back_to(graphs, free);
+            log.back_to(lines);
             Err(QueryRefusal::Memory)
         }
     }
-}
-
-// Puts the graph of a view behind those of a catalog, under its name where that is a word which no graph has.
-fn add_view(
-    checked: &Checked,
-    name: NameAt,
-    graph: Graph,
-    catalog: &mut Catalog,
-) -> Result<(), Memory>
-    requires coherent { AllByRecursion (λ h. AreCoherent h graph) catalog.old.graphs }
-    requires below { AreBelow catalog.old.next graph }
-    ensures added { OnOk result (catalog.new ≡ with_named catalog.old (free_word catalog.old.names (named checked.now.file.names name).name) graph) }
-    ensures same { OnErr result (catalog.new ≡ catalog.old) }
-{
-    match free_word(checked, name, catalog)? {
-        Some(word) => match catalog.add(word, graph) {
-            Ok(_) => Ok(()),
-            Err(AddRefusal::Memory) => Err(Memory),
-            // The word is free.
-            Err(AddRefusal::NameTaken) => unreachable!(),
-        },
-        None => {
-            catalog.add_unnamed(graph)?;
-            Ok(())
-        }
-    }
-}
-
-// The name at a place, where it is a word that no graph has.
-fn free_word(checked: &Checked, name: NameAt, catalog: &Catalog) -> Result<Option<Name>, Memory>
-    ensures { IfOk result (λ word. word ≡ free_word catalog.now.names (named checked.now.file.names name).name) }
-{
-    let names = &checked.file().names;
-    if name.sym.0 < names.len() {
-        unless_taken(names.name(name.sym), catalog)
-    } else {
-        Ok(None)
-    }
-}
-
-// A word, where no graph has it as its name.
-fn unless_taken(word: &Name, catalog: &Catalog) -> Result<Option<Name>, Memory>
-    ensures { IfOk result (λ found. found ≡ free_word catalog.now.names word.now) }
-{
-    let _word = word.bytes();
-    if catalog.number_of(word).is_some() {
-        return Ok(None);
-    }
-    Ok(Some(word.copy()?))
 }

@@ -1,11 +1,13 @@
-ghost use Rattle.std.specs.Prelude.{◌≡◌, ℕ, None};
+ghost use Rattle.std.specs.Prelude.{◌≡◌, ◌++◌, ℕ, List, None};
 ghost use Rattle.gc_ast.specs.Trees.{AStatement, Tree, row};
 ghost use Rattle.gc_sorts.specs.SortRules.{first_breach};
 ghost use Rattle.gc_lower.specs.Namings.{QueryFile};
 ghost use Rattle.gc_lower.specs.Scopes.{Scope};
 ghost use Rattle.gc_query.specs.Built.{AreBuilt};
+ghost use Rattle.gc_query.specs.Evaluations.{Evaluation};
 ghost use Rattle.gc_query.specs.Expressions.{EachHasParts};
 ghost use Rattle.gc_query.specs.InOrder.{IsInOrder};
+ghost use Rattle.gc_query.specs.Logs.{IsGained, Log};
 ghost use Rattle.gc_query.specs.Sessions.{Answer, Answers};
 ghost use Rattle.gc_query.specs.Standings.{Standing};
 
@@ -20,4 +22,9 @@ pub fn a_statement_comes_to_one_answer()
 pub fn a_file_that_breaks_no_rule_is_built()
     ensures { (f : QueryFile) (upto : ℕ) → EachHasParts (row f.statements) → IsInOrder f.names 0 (row f.statements) upto
         → first_breach f.graphs (row f.statements) ≡ None → AreBuilt f }
+{}
+
+/// What a log gains of some CONSTRUCTs, and then of others, is what it gains of all of them in turn.
+pub fn what_a_log_gains_in_turn_it_gains_together()
+    ensures { (s : Scope) (a b c : Log) (xs ys : List Evaluation) → IsGained s a xs b → IsGained s b ys c → IsGained s a (xs ++ ys) c }
 {}

@@ -5,10 +5,13 @@
 mod basics;
 mod combining;
 mod costs;
+mod explaining;
 mod fault;
 mod graph_views;
 mod laws;
+mod log;
 mod made;
+mod naming;
 mod path_heads;
 mod path_views;
 mod queries;
@@ -20,5 +23,9 @@ mod tables;
 mod used_views;
 
 pub use fault::{Fault, QueryRefusal};
-pub use laws::{a_file_that_breaks_no_rule_is_built, a_statement_comes_to_one_answer};
+pub use laws::{
+    a_file_that_breaks_no_rule_is_built, a_statement_comes_to_one_answer,
+    what_a_log_gains_in_turn_it_gains_together,
+};
+pub use log::{RunLog, Wants};
 pub use steps::step;

@@ -1,15 +1,18 @@
-ghost use Rattle.std.specs.Prelude.{◌≡◌, ◌≤◌, [], map, true, IfOk, Ok};
+ghost use Rattle.std.specs.Prelude.{◌≡◌, ◌≤◌, [], map, true, IfOk, Ok, OnOk};
 ghost use Rattle.gc_ast.specs.QueryViews.{head_tree, next_term_tree, query_tree, term_tree};
 ghost use Rattle.gc_ast.specs.Trees.{more, none, row};
 ghost use Rattle.gc_query.specs.Answered.{AllCome, AreStood, ComesAlong, ComesOf, IsAnswered, IsLonger, Rises, RisesOver, names_in, scope_in, standing_at};
 ghost use Rattle.gc_sets.specs.Origins.{ComesFrom};
 ghost use Rattle.gc_query.specs.Built.{IsBuilt};
+ghost use Rattle.gc_query.specs.Evaluations.{Evaluates, EvaluatesHead, EvaluatesHeads, EvaluatesLater, EvaluatesTerm, names_under, names_under_all};
+ghost use Rattle.gc_query.specs.Logs.{Tells};
 ghost use Rattle.gc_query.specs.Queries.{Denotes, DenotesTerm, Heads, Joined, graph_of_number, named, no_elements};
 ghost use Rattle.gc_lower.specs.Scopes.{number_at};
 
 use crate::basics::basic_made;
 use crate::combining::combined;
 use crate::fault::QueryRefusal;
+use crate::log::Told;
 use crate::made::Made;
 use crate::session::Session;
 use crate::standing::stand;
@@ -29,6 +32,7 @@ pub(crate) fn query_made<L: Ledger>(
     session: &Session<'_>,
     catalog: &mut Catalog,
     next: u64,
+    told: &mut Told,
     steps: &mut Steps<L>,
 ) -> Result<Made, QueryRefusal>
     requires built { IsBuilt (scope_in session.now) (query_tree (names_in session.now) query.now) }
@@ -38,10 +42,11 @@ pub(crate) fn query_made<L: Ledger>(
     ensures due { IsAnswered (Denotes (scope_in session.now) (standing_at catalog.old next) (query_tree (names_in session.now) query.now)) result }
     ensures comes { ComesOf catalog.old.graphs next result }
     ensures kept { catalog.new ≡ catalog.old }
+    ensures told { OnOk result (Tells (scope_in session.now) (Evaluates (scope_in session.now) catalog.old.names (standing_at catalog.old next) (query_tree (names_in session.now) query.now)) told.old told.new) }
 {
     let graphs = catalog.graphs().len();
     let free = catalog.next();
-    let result = query_under(query, session, catalog, next, steps);
+    let result = query_under(query, session, catalog, next, told, steps);
     catalog.back_to(graphs, free);
     result
 }
@@ -54,6 +59,7 @@ fn query_under<L: Ledger>(
     session: &Session<'_>,
     catalog: &mut Catalog,
     next: u64,
+    told: &mut Told,
     steps: &mut Steps<L>,
 ) -> Result<Made, QueryRefusal>
     requires built { IsBuilt (scope_in session.now) (query_tree (names_in session.now) query.now) }
@@ -63,10 +69,11 @@ fn query_under<L: Ledger>(
     ensures due { IsAnswered (Denotes (scope_in session.now) (standing_at catalog.old next) (query_tree (names_in session.now) query.now)) result }
     ensures comes { ComesOf catalog.old.graphs next result }
     ensures longer { IsLonger catalog.old catalog.new }
+    ensures told { OnOk result (Tells (scope_in session.now) (Evaluates (scope_in session.now) catalog.old.names (standing_at catalog.old next) (query_tree (names_in session.now) query.now)) told.old told.new) }
 {
-    let free = heads_stood(&query.heads, session, catalog, next, steps)?;
-    let first = term_made(&query.first, session, catalog, free, steps)?;
-    joined(&query.rest, session, catalog, first, steps)
+    let free = heads_stood(&query.heads, session, catalog, next, told, steps)?;
+    let first = term_made(&query.first, session, catalog, free, told, steps)?;
+    joined(&query.rest, session, catalog, first, told, steps)
 }
 
 // Puts the graphs that heads name behind those that stand.
@@ -77,6 +84,7 @@ fn heads_stood<L: Ledger>(
     session: &Session<'_>,
     catalog: &mut Catalog,
     next: u64,
+    told: &mut Told,
     steps: &mut Steps<L>,
 ) -> Result<u64, QueryRefusal>
     requires built { IsBuilt (scope_in session.now) (row (map (head_tree (names_in session.now)) heads.now)) }
@@ -86,10 +94,12 @@ fn heads_stood<L: Ledger>(
     ensures due { AreStood (Heads (scope_in session.now) (standing_at catalog.old next) (row (map (head_tree (names_in session.now)) heads.now))) catalog.new result }
     ensures come { AllCome catalog.old.graphs next catalog.new.graphs result }
     ensures longer { IsLonger catalog.old catalog.new }
+    ensures names { OnOk result (catalog.new.names ≡ names_under_all catalog.old.names (row (map (head_tree (names_in session.now)) heads.now))) }
+    ensures told { OnOk result (Tells (scope_in session.now) (EvaluatesHeads (scope_in session.now) catalog.old.names (standing_at catalog.old next) (row (map (head_tree (names_in session.now)) heads.now))) told.old told.new) }
 {
     let mut free = next;
     for head in heads {
-        free = head_stood(head, session, catalog, free, steps)?;
+        free = head_stood(head, session, catalog, free, told, steps)?;
     }
     Ok(free)
 }
@@ -102,6 +112,7 @@ fn head_stood<L: Ledger>(
     session: &Session<'_>,
     catalog: &mut Catalog,
     next: u64,
+    told: &mut Told,
     steps: &mut Steps<L>,
 ) -> Result<u64, QueryRefusal>
     requires built { IsBuilt (scope_in session.now) (head_tree (names_in session.now) head.now) }
@@ -111,11 +122,13 @@ fn head_stood<L: Ledger>(
     ensures due { AreStood (Heads (scope_in session.now) (standing_at catalog.old next) (more (head_tree (names_in session.now) head.now) none)) catalog.new result }
     ensures come { AllCome catalog.old.graphs next catalog.new.graphs result }
     ensures longer { IsLonger catalog.old catalog.new }
+    ensures names { OnOk result (catalog.new.names ≡ names_under catalog.old.names (head_tree (names_in session.now) head.now)) }
+    ensures told { OnOk result (Tells (scope_in session.now) (EvaluatesHead (scope_in session.now) catalog.old.names (standing_at catalog.old next) (head_tree (names_in session.now) head.now)) told.old told.new) }
 {
     match head {
-        Head::Graph { name: _, query } => {
-            let made = query_made(query, session, catalog, next, steps)?;
-            stand(catalog, made)
+        Head::Graph { name, query } => {
+            let made = query_made(query, session, catalog, next, told, steps)?;
+            stand(session.checked, *name, catalog, made)
         }
         // A view is evaluated where it is used.
         Head::Path { .. } => Ok(next),
@@ -130,6 +143,7 @@ fn joined<L: Ledger>(
     session: &Session<'_>,
     catalog: &mut Catalog,
     first: Made,
+    told: &mut Told,
     steps: &mut Steps<L>,
 ) -> Result<Made, QueryRefusal>
     requires built { IsBuilt (scope_in session.now) (row (map (next_term_tree (names_in session.now)) rest.now)) }
@@ -140,11 +154,12 @@ fn joined<L: Ledger>(
     ensures due { IsAnswered (Joined (scope_in session.now) catalog.old.graphs first (row (map (next_term_tree (names_in session.now)) rest.now))) result }
     ensures comes { ComesAlong catalog.old.graphs first result }
     ensures kept { catalog.new ≡ catalog.old }
+    ensures told { OnOk result (Tells (scope_in session.now) (EvaluatesLater (scope_in session.now) catalog.old.names catalog.old.graphs first (row (map (next_term_tree (names_in session.now)) rest.now))) told.old told.new) }
 {
     let _valid = catalog.next();
     let mut left = first;
     for later in rest {
-        let right = term_made(&later.term, session, catalog, left.next, steps)?;
+        let right = term_made(&later.term, session, catalog, left.next, told, steps)?;
         left = combined(session.alloc, later.op, &left.graph, right, steps)?;
     }
     Ok(left)
@@ -158,6 +173,7 @@ fn term_made<L: Ledger>(
     session: &Session<'_>,
     catalog: &mut Catalog,
     next: u64,
+    told: &mut Told,
     steps: &mut Steps<L>,
 ) -> Result<Made, QueryRefusal>
     requires built { IsBuilt (scope_in session.now) (term_tree (names_in session.now) term.now) }
@@ -167,11 +183,20 @@ fn term_made<L: Ledger>(
     ensures due { IsAnswered (DenotesTerm (scope_in session.now) (standing_at catalog.old next) (term_tree (names_in session.now) term.now)) result }
     ensures comes { ComesOf catalog.old.graphs next result }
     ensures kept { catalog.new ≡ catalog.old }
+    ensures told { OnOk result (Tells (scope_in session.now) (EvaluatesTerm (scope_in session.now) catalog.old.names (standing_at catalog.old next) (term_tree (names_in session.now) term.now)) told.old told.new) }
 {
     match term {
-        Term::Basic(basic) => basic_made(session, catalog.graphs(), basic, next, steps),
+        Term::Basic(basic) => basic_made(
+            session,
+            catalog,
+            catalog.graphs(),
+            basic,
+            next,
+            told,
+            steps,
+        ),
         Term::Graph(name) => graph_named(session, catalog.graphs(), name.token, next),
-        Term::Query(query) => query_made(query, session, catalog, next, steps),
+        Term::Query(query) => query_made(query, session, catalog, next, told, steps),
     }
 }
 

@@ -1,4 +1,7 @@
 pub mod CommandLaws
+pub mod ExplainLaws
+pub mod ExplainedCalls
+pub mod LogLaws
 pub mod GraphsRead
 pub mod RunLaws
 pub mod MakeQueryRead

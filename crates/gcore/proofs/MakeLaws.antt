@@ -7,7 +7,7 @@ use Rattle.gc_make.specs.MadeGraphs.{made}
 use Rattle.gc_spec.specs.PropertyGraph.{PropertyGraph}
 use Rattle.gcore.specs.Endings.{Answers, Change, HoldsMade, HoldsText, MayBegin, RunsMade}
 use Rattle.gcore.specs.MakeQueries.{made_name, make_query}
-use Rattle.gcore.specs.Outcomes.{IsAsked, PrintsFirst, Request, Runs, Task, make_due, make_request, outcome, session_due, texts, then_due}
+use Rattle.gcore.specs.Outcomes.{IsAsked, PrintsFirst, Request, Runs, Task, make_due, make_request, outcome, task_due, texts, then_due}
 use Rattle.gcore.specs.QueryFiles.{PlacedFile, query_file_of}
 use Rattle.gcore.specs.declared.command.Command.{Command}
 use Rattle.gcore.specs.declared.command.Command.TheVariants.{Make}
@@ -27,7 +27,7 @@ module _ (kind : MakeKind) (size start : ℕ) where
       within : (o : Option Files) (x : ℕ) → IsSomeAnd o (λ files. (task : Task) (text : List ℕ) → outcome command files ≡ Ok task → MayBegin task text → length text ≤ x)
           → (r : Request) → make_due kind size start ≡ Ok r → (graphs : List PropertyGraph) → PrintsFirst r graphs → length (texts r.style graphs) ≤ x
       within None x holds r due graphs first = absurd holds
-      within (Some files) x holds r due graphs first = holds (Runs r) (texts r.style graphs) (ap session_due due) (graphs, first, refl)
+      within (Some files) x holds r due graphs first = holds (Runs r) (texts r.style graphs) (ap (task_due Runs) due) (graphs, first, refl)
 
   -- what is due, by the graph that was made and the query that was read
   pub due_of : (g : PropertyGraph) (graphs : List PropertyGraph) (query : PlacedFile) (nodes edges : ℕ) → g ≡ made kind size start → graphs ≡ g ∷ [] → query_file_of (made_name ∷ []) make_query ≡ Ok query
@@ -48,7 +48,7 @@ module _ (kind : MakeKind) (size start : ℕ) where
     -- what is due, whatever the files
     due_is : (r : Request) → make_due kind size start ≡ Ok r → (o : Option Files) → IfSome o (λ files. IsAsked (outcome command files) r)
     due_is r e None = tt
-    due_is r e (Some files) = ap session_due e
+    due_is r e (Some files) = ap (task_due Runs) e
 
     -- a call that ran the session
     pub answers : (result : Result (Unit {0}) Stop) → RunsMade kind size start out result → Answers (record { command = command; files = told; faults_before = before; faults_after = after; out = out }) result

@@ -45,7 +45,7 @@ same_room None = refl
 same_room (Some n) = let e : n ≡ n - 0 = omega arith in ap Some e
 
 -- the item at a place, with those behind it
-drop_at : {X : Type 0} (xs : List X) (i : ℕ) (x : X) → slice_get xs i ≡ Some x → drop i xs ≡ x ∷ drop (suc i) xs
+pub drop_at : {X : Type 0} (xs : List X) (i : ℕ) (x : X) → slice_get xs i ≡ Some x → drop i xs ≡ x ∷ drop (suc i) xs
 drop_at [] zero x h = cc
 drop_at [] (suc i) x h = cc
 drop_at (y ∷ ys) zero x h = let e : y ≡ x = cc in ap (λ z. z ∷ ys) e

@@ -73,7 +73,7 @@ module _ (s : Scope) (sts : List (Tree AStatement)) (i : ℕ) (before after : Na
     prints g (Err (Faulted fault)) step w room calm = absurd w
 
   -- what stands behind a statement that names a graph; a query statement names none
-  view_stands : (statement : Tree AStatement) (made : Made) → Answers s (standing before) statement (says.Names made) → standing (with_view before statement made) ≡ behind (standing before) (says.Names made)
+  pub view_stands : (statement : Tree AStatement) (made : Made) → Answers s (standing before) statement (says.Names made) → standing (with_view before statement made) ≡ behind (standing before) (says.Names made)
   view_stands (View name query) made due = stands (free_word before.names name.name)
     where
       stands : (word : Option (List ℕ)) → standing (with_named (with_next before made.next) word made.graph) ≡ behind (standing before) (says.Names made)

@@ -18,7 +18,8 @@ use Rattle.gcore.specs.CertificateLines.{IsHeldCertificate, IsHeldSearch, accept
 use Rattle.gcore.specs.FaultLines.{IsHeldFault, walk_text}
 use Rattle.gcore.specs.GraphLines.{IsHeld}
 use Rattle.gcore.specs.Lines.{line_of, status_of}
-use Rattle.gcore.specs.Outcomes.{Checks, IsAsked, IsToCheck, Prints, PrintsFirst, Request, Runs, Task, graphs_due, make_due, outcome, texts}
+use Rattle.gcore.specs.Explanations.{IsExplained}
+use Rattle.gcore.specs.Outcomes.{Checks, Explains, IsOverSession, IsToCheck, Prints, PrintsFirst, Request, Runs, Task, graphs_due, make_due, outcome, texts}
 use Rattle.gcore.specs.QueryFiles.{place_at}
 use Rattle.gcore.specs.TextLines.{IsHeldPlace, IsHeldText}
 use Rattle.gcore.specs.declared.command.Command.{Command}
@@ -84,6 +85,11 @@ abbrev pub EndsAtFault : Request → Change → Stop → Type 0
 EndsAtFault r out stop =
     (graphs : List PropertyGraph) × (fault : Fault) × Prints r graphs (Some fault) × (stop ≡ stop_of_fault r.query.places fault) × Gains out (texts r.style graphs)
 
+-- a session ends at a fault, and nothing was written
+abbrev pub EndsSilently : Request → Change → Stop → Type 0
+EndsSilently r out stop =
+    (graphs : List PropertyGraph) × (fault : Fault) × Prints r graphs (Some fault) × (stop ≡ stop_of_fault r.query.places fault) × GainsNothing out
+
 -- the beginning of the texts of what the first statements print was written
 abbrev pub WritesBeginning : Request → Change → Type 0
 WritesBeginning r out = (graphs : List PropertyGraph) × PrintsFirst r graphs × GainsPrefix out (texts r.style graphs)
@@ -109,9 +115,11 @@ ReadFault call = Rose call.faults_before call.faults_after
 abbrev pub IsDue : Call → Stop → Type 0
 IsDue call stop = IfSome call.files (λ files. outcome call.command files ≡ Err stop)
 
--- a text that may have been written of what a call does: the texts of what the first statements print; or the line of a document that is accepted
+-- a text of which the beginning may have been written: the texts of what the first statements print; the lines that explain a session; or the
+-- line of a document that is accepted
 abbrev pub MayBegin : Task → List ℕ → Type 0
 MayBegin (Runs r) text = (graphs : List PropertyGraph) × PrintsFirst r graphs × (text ≡ texts r.style graphs)
+MayBegin (Explains r) text = IsExplained r text
 MayBegin (Checks bytes) text = (searches : ℕ) × IsOutcome bytes (Ok searches) × (text ≡ accepted_line searches)
 
 -- where the files are told, `out` gained nothing, or the beginning of such a text
@@ -120,9 +128,14 @@ GainsDuePrefix call =
     IfSome call.files (λ files. GainsNothing call.out
     ⊎ ((task : Task) × (text : List ℕ) × (outcome call.command files ≡ Ok task) × MayBegin task text × GainsPrefix call.out text))
 
--- where the files are told, the session that is asked for ends at the fault of this stop, and its texts before were written
+-- what a call does ends at the fault of a stop: its texts before were written, but nothing of what explains a session
+abbrev pub FaultsAt : Task → Change → Stop → Type 0
+FaultsAt (Runs r) out stop = EndsAtFault r out stop
+FaultsAt (Explains r) out stop = EndsSilently r out stop
+FaultsAt (Checks bytes) out stop = ⊥
+
 abbrev pub FaultIsDue : Call → Stop → Type 0
-FaultIsDue call stop = IfSome call.files (λ files. (r : Request) × IsAsked (outcome call.command files) r × EndsAtFault r call.out stop)
+FaultIsDue call stop = IfSome call.files (λ files. (task : Task) × (outcome call.command files ≡ Ok task) × FaultsAt task call.out stop)
 
 -- where the files are told, the document that is to be checked is answered so
 abbrev pub IsCheckedAs : Call → Result ℕ CheckRefusal → Type 0
@@ -141,14 +154,14 @@ IsTurnOfQuery told query pairs file = (file ≡ query) × IfSome told (λ files.
 abbrev pub graphs_of : Command → List Pair
 graphs_of (Run query pairs) = pairs
 graphs_of (Cert query pairs) = []
-graphs_of (Explain query pairs) = []
+graphs_of (Explain query pairs) = pairs
 graphs_of (Check document) = []
 graphs_of (Make kind size start) = []
 
 abbrev pub IsTurnOf : Option Files → Command → List ℕ → Type 0
 IsTurnOf told (Run query pairs) file = IsTurnOfGraph told pairs file ⊎ IsTurnOfQuery told query pairs file
 IsTurnOf told (Cert query pairs) file = ⊥
-IsTurnOf told (Explain query pairs) file = ⊥
+IsTurnOf told (Explain query pairs) file = IsTurnOfGraph told pairs file ⊎ IsTurnOfQuery told query pairs file
 IsTurnOf told (Check document) file = file ≡ document
 IsTurnOf told (Make kind size start) file = ⊥
 
@@ -156,15 +169,15 @@ IsTurnOf told (Make kind size start) file = ⊥
 abbrev pub IsTurnOfItsQuery : Option Files → Command → Type 0
 IsTurnOfItsQuery told (Run query pairs) = IsTurnOfQuery told query pairs query
 IsTurnOfItsQuery told (Cert query pairs) = ⊥
-IsTurnOfItsQuery told (Explain query pairs) = ⊥
+IsTurnOfItsQuery told (Explain query pairs) = IsTurnOfQuery told query pairs query
 IsTurnOfItsQuery told (Check document) = ⊥
 IsTurnOfItsQuery told (Make kind size start) = ⊥
 
--- the turn of the session of a command that runs one comes: with its query file; that of `make` has no file to wait for
+-- the turn of the session of a command that runs or explains one comes: with its query file; that of `make` has no file to wait for
 abbrev pub IsTurnOfItsSession : Option Files → Command → Type 0
 IsTurnOfItsSession told (Run query pairs) = IsTurnOfQuery told query pairs query
 IsTurnOfItsSession told (Cert query pairs) = ⊥
-IsTurnOfItsSession told (Explain query pairs) = ⊥
+IsTurnOfItsSession told (Explain query pairs) = IsTurnOfQuery told query pairs query
 IsTurnOfItsSession told (Check document) = ⊥
 IsTurnOfItsSession told (Make kind size start) = ⊤
 
@@ -196,7 +209,7 @@ HasDocument (Make kind size start) = ⊥
 abbrev pub IsUnbuilt : Command → Type 0
 IsUnbuilt (Run query pairs) = ⊥
 IsUnbuilt (Cert query pairs) = ⊤
-IsUnbuilt (Explain query pairs) = ⊤
+IsUnbuilt (Explain query pairs) = ⊥
 IsUnbuilt (Check document) = ⊥
 IsUnbuilt (Make kind size start) = ⊥
 
@@ -219,9 +232,11 @@ StopsFor call (Faulted fault) = IsReachedSession call × FaultIsDue call (Faulte
 StopsFor call Unwritten = IsSome call.command × Failed call.out × GainsDuePrefix call
 StopsFor call OutOfMemory = GainsDuePrefix call
 
--- what a call has to do comes to this text: the texts of the graphs that the session prints; or the line of a document that is accepted
+-- what a call has to do comes to this text: the texts of the graphs that the session prints; the lines that explain it; or the line of a
+-- document that is accepted
 abbrev pub ComesTo : Task → List ℕ → Type 0
 ComesTo (Runs r) text = (graphs : List PropertyGraph) × Prints r graphs None × (text ≡ texts r.style graphs)
+ComesTo (Explains r) text = IsExplained r text
 ComesTo (Checks bytes) text = (searches : ℕ) × IsOutcome bytes (Ok searches) × (text ≡ accepted_line searches)
 
 -- the call did what is due: where the files are told, `out` gained exactly the text that this comes to
@@ -251,7 +266,7 @@ abbrev pub named_files : Option Command → List (List ℕ)
 named_files None = []
 named_files (Some (Run query pairs)) = query ∷ map (λ (p : Pair). p.file) pairs
 named_files (Some (Cert query pairs)) = []
-named_files (Some (Explain query pairs)) = []
+named_files (Some (Explain query pairs)) = query ∷ map (λ (p : Pair). p.file) pairs
 named_files (Some (Check document)) = document ∷ []
 named_files (Some (Make kind size start)) = []
 
@@ -259,23 +274,23 @@ named_files (Some (Make kind size start)) = []
 abbrev pub HasQuery : Command → Type 0
 HasQuery (Run query pairs) = ⊤
 HasQuery (Cert query pairs) = ⊥
-HasQuery (Explain query pairs) = ⊥
+HasQuery (Explain query pairs) = ⊤
 HasQuery (Check document) = ⊥
 HasQuery (Make kind size start) = ⊥
 
--- a command runs a session
+-- a command runs a session, or explains one
 abbrev pub HasSession : Command → Type 0
 HasSession (Run query pairs) = ⊤
 HasSession (Cert query pairs) = ⊥
-HasSession (Explain query pairs) = ⊥
+HasSession (Explain query pairs) = ⊤
 HasSession (Check document) = ⊥
 HasSession (Make kind size start) = ⊤
 
 -- where the files are told, the session that is asked for ends at the fault of a stop
 abbrev pub EndsAt : Option Files → Option Command → Stop → Type 0
 EndsAt told command stop =
-    IfSome told (λ files. (r : Request) × (graphs : List PropertyGraph) × (fault : Fault) × IsAsked (outcome command files) r × Prints r graphs (Some fault)
-    × (stop ≡ stop_of_fault r.query.places fault))
+    IfSome told (λ files. (task : Task) × (r : Request) × (graphs : List PropertyGraph) × (fault : Fault) × (outcome command files ≡ Ok task)
+    × IsOverSession task r × Prints r graphs (Some fault) × (stop ≡ stop_of_fault r.query.places fault))
 
 -- a stop about a file is about one that the command reads, and one at a fault is about a fault of the session
 abbrev pub MayStop : Option Files → Option Command → Stop → Type 0

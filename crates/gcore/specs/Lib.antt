@@ -1,10 +1,13 @@
 pub mod CertificateLines
 pub mod CommandLines
 pub mod Endings
+pub mod ExplainedSessions
+pub mod Explanations
 pub mod FaultLines
 pub mod GraphLines
 pub mod GraphSteps
 pub mod Lines
+pub mod LoggedSessions
 pub mod MakeLines
 pub mod MakeQueries
 pub mod Outcomes

@@ -126,26 +126,27 @@ make_request g query = Ok (record { graphs = g ∷ []; query = query; style = Su
 abbrev pub make_due : MakeKind → (size start : ℕ) → Result Request Stop
 make_due kind size start = then_due (query_file_of (made_name ∷ []) make_query) (make_request (made kind size start))
 
--- what a call has to do: to run a session, or to check the bytes of a document
+-- what a call has to do: to run a session, to explain one, or to check the bytes of a document
 pub data Task : Type 0 where
   Runs : Request → Task
+  Explains : Request → Task
   Checks : List ℕ → Task
 
--- a session as what is due
-abbrev pub session_due : Result Request Stop → Result Task Stop
-session_due due = then_due due (λ r. Ok (Runs r))
+-- what is to be done with a session, as what is due
+abbrev pub task_due : (Request → Task) → Result Request Stop → Result Task Stop
+task_due task due = then_due due (λ r. Ok (task r))
 
 -- the document that is checked
 abbrev pub check_due : Files → List ℕ → Result Task Stop
 check_due files document = then_due (file_due files document document_limit) (λ bytes. Ok (Checks bytes))
 
--- what a command has to do; those that are not built yet stop directly
+-- what a command has to do; one that is not built yet stops directly
 abbrev pub command_due : Files → Command → Result Task Stop
-command_due files (Run query pairs) = session_due (run_due files query pairs)
+command_due files (Run query pairs) = task_due Runs (run_due files query pairs)
 command_due files (Cert query pairs) = Err NotBuilt
-command_due files (Explain query pairs) = Err NotBuilt
+command_due files (Explain query pairs) = task_due Explains (run_due files query pairs)
 command_due files (Check document) = check_due files document
-command_due files (Make kind size start) = session_due (make_due kind size start)
+command_due files (Make kind size start) = task_due Runs (make_due kind size start)
 
 -- words that are no command are a usage fault
 abbrev pub form_due : Option Command → Result Command Stop
@@ -156,9 +157,15 @@ form_due (Some command) = Ok command
 abbrev pub outcome : Option Command → Files → Result Task Stop
 outcome command files = then_due (form_due command) (command_due files)
 
--- a call is asked for the session of a request, and for the check of these bytes
+-- a call is asked to run the session of a request, and to check these bytes
 abbrev pub IsAsked : Result Task Stop → Request → Type 0
 IsAsked due r = due ≡ Ok (Runs r)
+
+-- a call is asked for something that is over the session of a request
+abbrev pub IsOverSession : Task → Request → Type 0
+IsOverSession (Runs r) s = r ≡ s
+IsOverSession (Explains r) s = r ≡ s
+IsOverSession (Checks bytes) s = ⊥
 
 abbrev pub IsToCheck : Result Task Stop → List ℕ → Type 0
 IsToCheck due bytes = due ≡ Ok (Checks bytes)

@@ -2,10 +2,11 @@ ghost use Rattle.std.specs.Prelude.{◌≡◌, true, Some};
 ghost use Rattle.gcore.specs.Pairs.{are_graphs};
 ghost use Rattle.gcore.specs.CommandLines.{KeepsLimits};
 ghost use Rattle.gcore.specs.Endings.{Answers, Call, Change, HoldsText};
-ghost use Rattle.gcore.specs.declared.command.Command.TheVariants.{Run};
+ghost use Rattle.gcore.specs.declared.command.Command.TheVariants.{Explain, Run};
 
 use crate::checking::run_check;
 use crate::command::Command;
+use crate::explain::explain_session;
 use crate::graphs::read_graphs;
 use crate::inputs::read_query;
 use crate::made::run_make;
@@ -21,7 +22,7 @@ use std::sync::ledger::Ledger;
 
 /// Runs a command: its graph files are read first, then the query file, then the answer is written. `check` reads a
 /// document alone, and `make` no file.
-/// A command that is not built yet stops directly.
+/// `cert`, which is not built yet, stops directly.
 pub fn run<F: Folder, S: Sink, L: Ledger>(
     alloc: Global,
     command: &Command,
@@ -53,15 +54,15 @@ pub fn run<F: Folder, S: Sink, L: Ledger>(
             query: _,
             graphs: _,
         } => Err(Stop::NotBuilt),
-        Command::Explain {
-            query: _,
-            graphs: _,
-        } => Err(Stop::NotBuilt),
+        Command::Explain { query, graphs } => {
+            explain_query(alloc, query, graphs.as_slice(), folder, out, steps)
+        }
         Command::Check { document } => run_check(alloc, document, folder, out, steps),
         Command::Make { kind, size, start } => { run_make(alloc, *kind, *size, *start, out, steps) }
     }
 }
 
+// Reads graph files and a query file, and runs the session.
 fn run_query<F: Folder, S: Sink, L: Ledger>(
     alloc: Global,
     query: &Str,
@@ -91,6 +92,39 @@ fn run_query<F: Folder, S: Sink, L: Ledger>(
     let checked = read_query(alloc, folder, query, &names)?;
     let written = run_session(alloc, &checked, &mut catalog, Style::Text, out, steps);
     // The program ends with the answer, and the system takes the memory of the graphs back whole.
+    let _kept = ManuallyDrop::new(catalog);
+    written
+}
+
+// The same for a session that is explained.
+fn explain_query<F: Folder, S: Sink, L: Ledger>(
+    alloc: Global,
+    query: &Str,
+    pairs: &[Pair],
+    folder: &mut F,
+    out: &mut S,
+    steps: &mut Steps<L>,
+) -> Result<(), Stop>
+    requires graphs { are_graphs pairs.now ≡ true }
+    requires room { HoldsText (S.room out.old) (F.files folder.old) (Some (Explain query.now pairs.now)) }
+    ensures outcome { Answers (record {
+      command = Some (Explain query.now pairs.now);
+      files = F.files folder.old;
+      faults_before = F.faults folder.old;
+      faults_after = F.faults folder.new;
+      out = record {
+        faults_before = S.faults out.old;
+        faults_after = S.faults out.new;
+        taken_before = S.taken out.old;
+        taken_after = S.taken out.new;
+      };
+    }) result }
+    ensures kept { F.files folder.new ≡ F.files folder.old }
+{
+    let mut catalog = read_graphs(alloc, folder, pairs)?;
+    let names = names_of(alloc, pairs)?;
+    let checked = read_query(alloc, folder, query, &names)?;
+    let written = explain_session(alloc, &checked, &mut catalog, out, steps);
     let _kept = ManuallyDrop::new(catalog);
     written
 }

@@ -20,7 +20,7 @@ use gc_catalog::Catalog;
 use gc_io::{Sink, SinkFault, write_whole};
 use gc_json::print;
 use gc_ppg::Graph;
-use gc_query::{Fault, QueryRefusal, step};
+use gc_query::{Fault, QueryRefusal, RunLog, Wants, step};
 use gc_sorts::Checked;
 use std::alloc::Global;
 use std::sync::ledger::Ledger;
@@ -41,8 +41,9 @@ pub fn run_session<S: Sink, L: Ledger>(
     ensures { RunsSession (record { graphs = catalog.old.graphs; query = placed checked.now; style = style })
         (record { faults_before = S.faults out.old; faults_after = S.faults out.new; taken_before = S.taken out.old; taken_after = S.taken out.new }) result }
 {
+    let mut log = RunLog::new(alloc, Wants::Nothing);
     for i in 0..checked.file().statements.len() {
-        run_statement(alloc, checked, i, catalog, style, out, steps)?;
+        run_statement(alloc, checked, i, catalog, style, &mut log, out, steps)?;
     }
     Ok(())
 }
@@ -54,6 +55,7 @@ fn run_statement<S: Sink, L: Ledger>(
     i: usize,
     catalog: &mut Catalog,
     style: Style,
+    log: &mut RunLog,
     out: &mut S,
     steps: &mut Steps<L>,
 ) -> Result<(), Stop>
@@ -70,7 +72,7 @@ fn run_statement<S: Sink, L: Ledger>(
           room_later = S.room out.new;
         }) (file_trees checked.now.file) i result }
 {
-    match step(alloc, checked, i, catalog, steps) {
+    match step(alloc, checked, i, catalog, log, steps) {
         Ok(Some(graph)) => write_graph(alloc, &graph, style, out, steps),
         Ok(None) => Ok(()),
         Err(QueryRefusal::Fault(fault)) => Err(stop_of(alloc, checked, &fault)),
@@ -78,8 +80,8 @@ fn run_statement<S: Sink, L: Ledger>(
     }
 }
 
-// A fault as a stop, with the place of its token, or want of memory.
-fn stop_of(alloc: Global, checked: &Checked, fault: &Fault) -> Stop
+/// A fault as a stop, with the place of its token, or want of memory.
+pub fn stop_of(alloc: Global, checked: &Checked, fault: &Fault) -> Stop
     ensures { (result ≡ stop_of_fault (placed checked.now).places fault.now) ⊎ (result ≡ OutOfMemory) }
 {
     match fault {
@@ -162,7 +164,8 @@ fn graph_text<L: Ledger>(
     Ok(text)
 }
 
-fn write_text<S: Sink>(out: &mut S, text: &[u8]) -> Result<(), Stop>
+/// Writes a text.
+pub fn write_text<S: Sink>(out: &mut S, text: &[u8]) -> Result<(), Stop>
     requires { HasRoom (S.room out.old) (length text.now) }
     ensures written { WritesText (record {
       faults_before = S.faults out.old;

@@ -1,16 +1,10 @@
-// Graph files that are read, those that break a rule, and commands that are not built yet.
+// Graph files that are read, those that break a rule, and a command that is not built yet.
 use super::first_failing;
 use std::test::Fail;
 
 const CASES: &str = r##"
 cert-not-built
 $ cert q g=a
-a: «labels»
-q: CONSTRUCT (v) MATCH (v:Person)
-= 11 gcore: not built
-
-explain-not-built
-$ explain q g=a
 a: «labels»
 q: CONSTRUCT (v) MATCH (v:Person)
 = 11 gcore: not built

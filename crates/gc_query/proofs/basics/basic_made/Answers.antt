@@ -1,4 +1,9 @@
-use Rattle.std.proofs.Common.{◌≡◌, Err, List, None, ap, sym, ◌∙◌}
+use Rattle.std.proofs.Common.{◌≡◌, Err, Ok, List, [], ◌∷◌, None, ap, refl, sym, subst, ◌∙◌}
+use Rattle.gc_alg.specs.Tables.{IsTableOfBlock}
+use Rattle.gc_alg.specs.Trees.{Tree, ABlock}
+use Rattle.gc_exec.specs.Runs.{setting}
+use Rattle.gc_lower.specs.Blocks.{block_of}
+use Rattle.gc_spec.specs.PropertyGraph.{PropertyGraph}
 use Rattle.gc_ast.specs.QueryViews.{basic_tree}
 use Rattle.gc_alg.specs.Views.{block_tree}
 use Rattle.gc_expr.specs.Views.{Names}
@@ -8,7 +13,10 @@ use Rattle.gc_query.specs.Answered.{names_in, scope_in}
 use Rattle.gc_query.specs.Basics.{Comes, DenotesBasic}
 use Rattle.gc_query.specs.Built.{are_searched}
 use Rattle.gc_query.specs.Costs.{costs_of, first_past}
+use Rattle.gc_query.specs.Evaluations.{evaluation}
+use Rattle.gc_query.specs.Logs.{IsToldOf}
 use Rattle.gc_query.specs.Segments.{HasSegments}
+use Rattle.gc_query.proofs.EvaluationLaws.{always, told_of}
 use Rattle.gc_query.specs.declared.costs.CostAt.{CostAt}
 use Rattle.gc_query.specs.Standings.{Standing}
 use Rattle.gc_query.proofs.BasicsMade.{cost_fails, costs_fit, view_fails}
@@ -23,6 +31,30 @@ table_made-requires-clause-block g c = c.in_ok-lowered.ensures.is_block
 
 pub table_made-requires-clause-matched : goal.table_made-requires-clause-matched
 table_made-requires-clause-matched g c = c.in_ok-table.ensures
+
+-- what was evaluated was told
+pub returns-clause-told : goal.returns-clause-told
+returns-clause-told g c =
+    let s : Scope = scope_in c.args.session.now in
+    let names : Names = names_in c.args.session.now in
+    let tree = basic_tree names c.args.basic.now in
+    let is : block_tree c.in_ok-lowered.lowered.block ≡ block_of s [] tree = c.in_ok-lowered.ensures.is_block in
+    let graphs : List PropertyGraph = c.args.graphs.now in
+    let all = evaluation tree c.args.named.now.names graphs c.in_ok-segments.segments c.in_ok-table.table ∷ [] in
+    always c.table_made.result _ (
+      all,
+      (
+        c.in_ok-segments.segments,
+        c.in_ok-table.table,
+        record {
+          used = subst (λ (b : Tree ABlock). HasSegments s graphs b (Ok c.in_ok-segments.segments)) is c.in_ok-segments.ensures.due;
+          matched = subst (λ (b : Tree ABlock). IsTableOfBlock (setting graphs c.in_ok-segments.segments b []) c.in_ok-table.table) is c.in_ok-table.ensures;
+        },
+        refl,
+      ),
+      told_of s c.args.told.now c.tell.new.told tree c.args.named.now.names graphs c.in_ok-segments.segments c.in_ok-table.table
+          (subst (λ (b : Tree ABlock). IsToldOf s c.args.named.now.names graphs b c.args.told.now c.tell.new.told) is c.in_ok-tell.ensures),
+    )
 
 pub returns-in_err-segments-clause-due : goal.returns-in_err-segments-clause-due
 returns-in_err-segments-clause-due g c =

@@ -1,4 +1,4 @@
-use Rattle.std.proofs.Common.{◌≡◌, List, Ok, Err, sym, ap, ◌∙◌, subst}
+use Rattle.std.proofs.Common.{◌≡◌, ℕ, List, [], ◌∷◌, ◌++◌, length, take, Ok, Err, refl, sym, ap, ◌∙◌, subst}
 use Rattle.std.specs.List.{AllByRecursion}
 use Rattle.gc_ast.specs.PatternViews.{named}
 use Rattle.gc_ast.specs.QueryViews.{query_tree}
@@ -7,23 +7,25 @@ use Rattle.gc_catalog.specs.NamedGraphs.{NamedGraphs, AreBelow, IsCatalog}
 use Rattle.gc_lower.specs.Namings.{scope_of}
 use Rattle.gc_spec.specs.Coherence.{AreCoherent}
 use Rattle.gc_spec.specs.PropertyGraph.{PropertyGraph}
+use Rattle.gc_query.specs.Logs.{Log, Tells, with_told}
 use Rattle.gc_query.specs.Queries.{Denotes}
 use Rattle.gc_query.specs.Standings.{Made}
 use Rattle.gc_query.specs.Steps.{free_word, standing, with_named, with_next}
+use Rattle.gc_query.proofs.EvaluationLaws.{tells_taken}
 use Rattle.gc_query.proofs.Standings.{below, coherent}
 use Rattle.gc_query.proofs.StepLaws.{step_refused, view_fails, view_names}
 use Rattle.gc_query.proofs.graph_views.view_step.Goals as goal
 
-pub returns-in_err-made : goal.returns-in_err-made
-returns-in_err-made g c =
+pub returns-in_err-made-clause-step : goal.returns-in_err-made-clause-step
+returns-in_err-made-clause-step g c =
     let s = scope_of c.args.checked.now 0 in
     let query = query_tree c.args.checked.now.file.names c.args.query.now in
     let name = named c.args.checked.now.file.names c.args.name in
     step_refused s c.args.catalog.now c.answered.new.catalog c.in_err-made.ensures.kept (View name query) (λ fault. Denotes s (standing c.args.catalog.now) query (Err fault)) (view_fails s (standing c.args.catalog.now) query name)
     c.from_residual.result c.in_err-made.field-0.0 c.from_residual.ensures.0 c.from_residual.ensures.1 c.in_err-made.ensures.due
 
-pub add_view-requires-clause-coherent : goal.add_view-requires-clause-coherent
-add_view-requires-clause-coherent g c =
+pub stand_named-requires-clause-coherent : goal.stand_named-requires-clause-coherent
+stand_named-requires-clause-coherent g c =
     let before : NamedGraphs = c.args.catalog.now in
     let made : Made = record { graph = c.made.inside.graph; next = c.made.inside.next } in
     let same : made ≡ c.in_ok-made.made = c.made.view_is in
@@ -34,8 +36,8 @@ add_view-requires-clause-coherent g c =
     (subst (λ (m : Made). AllByRecursion (λ h. AreCoherent h m.graph) before.graphs) (sym same)
     (coherent before is c.in_ok-made.made.next c.in_ok-made.ensures.rises.0 c.in_ok-made.made.graph c.in_ok-made.ensures.comes))
 
-pub add_view-requires-clause-below : goal.add_view-requires-clause-below
-add_view-requires-clause-below g c =
+pub stand_named-requires-clause-below : goal.stand_named-requires-clause-below
+stand_named-requires-clause-below g c =
     let before : NamedGraphs = c.args.catalog.now in
     let made : Made = record { graph = c.made.inside.graph; next = c.made.inside.next } in
     let same : made ≡ c.in_ok-made.made = c.made.view_is in
@@ -45,8 +47,8 @@ add_view-requires-clause-below g c =
     (subst (λ (m : Made). AreBelow m.next m.graph) (sym same)
     (below before is c.in_ok-made.made.next c.in_ok-made.ensures.rises.0 c.in_ok-made.made.graph c.in_ok-made.ensures.comes))
 
-pub returns-in-Ok : goal.returns-in-Ok
-returns-in-Ok g c =
+pub returns-in-Ok-clause-step : goal.returns-in-Ok-clause-step
+returns-in-Ok-clause-step g c =
     let s = scope_of c.args.checked.now 0 in
     let query = query_tree c.args.checked.now.file.names c.args.query.now in
     let name = named c.args.checked.now.file.names c.args.name in
@@ -59,3 +61,24 @@ returns-in-Ok g c =
       view_names s (standing before) query name made (subst (λ m. Denotes s (standing before) query (Ok m)) (sym same) c.in_ok-made.ensures.due),
       c.in-Ok.ensures.added ∙ ap (λ (n : NamedGraphs). with_named n (free_word n.names name.name) made.graph) now,
     )
+
+pub returns-in-Ok-clause-log : goal.returns-in-Ok-clause-log
+returns-in-Ok-clause-log g c =
+    let s = scope_of c.args.checked.now 0 in
+    subst (Tells s _ c.args.log.now) (sym c.in_ok-take.ensures.taken)
+    (tells_taken s _ c.args.log.now c.answered.new.told c.behind-told.ensures.begins
+    (subst (λ (l : Log). Tells s _ l c.answered.new.told) c.behind-told.ensures.told c.in_ok-made.ensures.told))
+
+-- the first lines of a log that took more are those that it had
+first_lines : (log told after : Log) (n : ℕ) → n ≡ length log.lines → after ≡ with_told log told → record after { lines = take n after.lines } ≡ log
+first_lines log told after n many taken =
+    let lines : take n after.lines ≡ log.lines = ap (λ (l : Log). take n l.lines) taken ∙ (ap (λ k. take k (log.lines ++ told.lines)) many ∙ take_all log.lines told.lines) in
+    λ i. record { wants = (taken i).wants; before = (taken i).before; lines = lines i }
+  where
+    take_all : {X : Type 0} (xs ys : List X) → take (length xs) (xs ++ ys) ≡ xs
+    take_all [] ys = refl
+    take_all (x ∷ xs) ys = ap (λ zs. x ∷ zs) (take_all xs ys)
+
+pub returns-in-Err-clause-log : goal.returns-in-Err-clause-log
+returns-in-Err-clause-log g c =
+    c.back_to-2.ensures ∙ first_lines c.args.log.now c.answered.new.told c.take.new.self c.len-lines.result (c.len-lines.ensures ∙ ap length c.lines.ensures) c.in_ok-take.ensures.taken

@@ -1,4 +1,5 @@
-use Rattle.std.proofs.Common.{ℕ, ◌∷◌, ◌++◌, OnOk, Result, ◌+◌, length, drop, slice_get, Some, ◌≡◌, ◌≤◌, [], Ok, Err, List, map, rules, sym, ap, ◌∙◌, subst, refl, arith}
+use Rattle.std.proofs.Common.{append_assoc, append-nil, ℕ, ◌∷◌, ◌++◌, OnOk, Result, ◌+◌, length, drop, slice_get, Some, ◌≡◌, ◌≤◌, [], Ok, Err, List, map, rules, sym, ap, ◌∙◌, subst, refl, arith}
+use Rattle.std.proofs.lemmas.List.{drop_all}
 use Rattle.gc_ast.specs.declared.query.Basic.{Basic}
 use Rattle.gc_ast.specs.declared.query.Query.{Query, out-Query}
 use Rattle.gc_ast.specs.declared.construct.Change.{the_lemmas}
@@ -14,12 +15,16 @@ use Rattle.gc_spec.specs.PropertyGraph.{PropertyGraph}
 use Rattle.gc_query.specs.Answered.{AreStood, ComesAlong, ComesOf, IsAnswered, IsLonger, names_in, scope_in, standing_at}
 use Rattle.gc_query.specs.Basics.{DenotesBasic}
 use Rattle.gc_query.specs.Built.{IsBasicBuilt, IsBuilt}
+use Rattle.gc_query.specs.Evaluations.{Evaluates, EvaluatesBasic, EvaluatesHead, EvaluatesHeads, EvaluatesLater, EvaluatesTerm, names_under, names_under_all}
+use Rattle.gc_query.specs.Logs.{Tells}
 use Rattle.gc_query.specs.Queries.{Denotes, DenotesTerm, Heads, Joined, named, with_made}
+use Rattle.gc_query.specs.Steps.{free_word}
 use Rattle.gc_query.specs.Standings.{Made, Standing}
 use Rattle.gc_query.specs.declared.fault.Fault.{Fault}
 use Rattle.gc_query.proofs.BuiltParts.{of_basic, of_inner, of_next}
 use Rattle.gc_query.proofs.BuiltRests.{first_is, heads_are, later_are, next_is, rest_is}
 use Rattle.gc_query.proofs.AllOf.{drop_at, got}
+use Rattle.gc_query.proofs.EvaluationLaws.{always, basic_evaluates, gained_more, gained_none, graph_evaluates, graph_head, if_told, inner_evaluates, next_later, no_head, no_heads, none_later, one_head, query_tells, tells_as, tells_none}
 use Rattle.gc_query.proofs.Heads.{goes_on, graph_fails, head_fails, names_graph, names_view}
 use Rattle.gc_query.proofs.Outcomes.{if_ok, not_stood, passes_on, refused, stands_on}
 use Rattle.gc_query.proofs.QueryParts.{path_head}
@@ -76,7 +81,7 @@ joined-combined-requires g t c =
     })
 
 pub joined-loop-later-init : goal.joined-loop-later-init
-joined-loop-later-init g t c = record { built = c.requires.built; later = omega arith; most = c.requires.most; kept = refl; comes = c.requires.comes; along = λ next up h. h; leads = λ outcome j. j }
+joined-loop-later-init g t c = record { built = c.requires.built; later = omega arith; most = c.requires.most; kept = refl; comes = c.requires.comes; along = λ next up h. h; leads = λ outcome j. j; so_far = []; gained = gained_none (scope_in c.args.session.now) c.args.told.now; evaluated = λ later e. e }
 
 pub joined-loop-later-preserved : goal.joined-loop-later-preserved
 joined-loop-later-preserved g t c =
@@ -108,7 +113,28 @@ joined-loop-later-preserved g t c =
       along = λ next up h. turns next (omega (arith, up, inv.later, ap (λ (m : Made). m.next) same)) (with next (inv.along next up h));
       leads = λ outcome j. inv.leads outcome (subst (λ l. Joined s graphs l (tree.row (map (next_term_tree names) (drop c.loop-later.later-index c.args.rest.now))) outcome) same
           (joins s names graphs c.args.rest.now c.loop-later.later-index c.later-item.result at left c.in_ok-right.right (subst (λ (n : NamedGraphs). DenotesTerm s (standing_at n left.next) (term_tree names c.later-item.result.term) (Ok c.in_ok-right.right)) c.loop-later.invariant.kept c.in_ok-right.ensures.due) c.in_ok-left.left both outcome j));
+      so_far = inv.so_far ++ c.in_ok-right.ensures.told.0;
+      gained = gained_more s c.args.told.now c.loop-later.told c.term_made.new.told inv.so_far c.in_ok-right.ensures.told.0 inv.gained c.in_ok-right.ensures.told.2;
+      evaluated = λ later e. subst (EvaluatesLater s c.args.catalog.now.names graphs c.args.first (tree.row (map (next_term_tree names) c.args.rest.now))) (sym (append_assoc inv.so_far c.in_ok-right.ensures.told.0 later))
+          (inv.evaluated (c.in_ok-right.ensures.told.0 ++ later)
+          (subst (λ l. EvaluatesLater s c.args.catalog.now.names graphs l (tree.row (map (next_term_tree names) (drop c.loop-later.later-index c.args.rest.now))) (c.in_ok-right.ensures.told.0 ++ later)) same
+          (next_later s names c.args.catalog.now.names graphs c.args.rest.now c.loop-later.later-index c.later-item.result at left right c.in_ok-left.left (c.in_ok-right.ensures.told.0 ++ later)
+          (subst (λ (n : NamedGraphs). DenotesTerm s (standing_at n left.next) (term_tree names c.later-item.result.term) (Ok right)) inv.kept c.in_ok-right.ensures.due) both
+          (c.in_ok-right.ensures.told.0, later, subst (λ (n : NamedGraphs). EvaluatesTerm s n.names (standing_at n left.next) (term_tree names c.later-item.result.term) c.in_ok-right.ensures.told.0) inv.kept c.in_ok-right.ensures.told.1, e, refl))));
     }
+
+-- where no term is left, nothing more is evaluated
+pub joined-returns-clause-told : goal.joined-returns-clause-told
+joined-returns-clause-told g t c =
+    let s : Scope = scope_in c.args.session.now in
+    let names : Names = names_in c.args.session.now in
+    let left : Made = record { graph = c.left.inside.graph; next = c.left.inside.next } in
+    let graphs : List PropertyGraph = c.args.catalog.now.graphs in
+    let inv = c.loop-later.invariant in
+    let none : drop c.loop-later.later-index c.args.rest.now ≡ [] = drop_all c.loop-later.later-index c.args.rest.now (omega arith) in
+    let all : EvaluatesLater s c.args.catalog.now.names graphs c.args.first (tree.row (map (next_term_tree names) c.args.rest.now)) (inv.so_far ++ []) =
+    inv.evaluated [] (subst (λ rest. EvaluatesLater s c.args.catalog.now.names graphs c.loop-later.left (tree.row (map (next_term_tree names) rest)) []) (sym none) (none_later s c.args.catalog.now.names graphs c.loop-later.left)) in
+    (inv.so_far, subst (EvaluatesLater s c.args.catalog.now.names graphs c.args.first (tree.row (map (next_term_tree names) c.args.rest.now))) (append-nil inv.so_far) all, inv.gained)
 
 pub query_made-back_to-requires-clause-there : goal.query_made-back_to-requires-clause-there
 query_made-back_to-requires-clause-there g t c =
@@ -212,8 +238,29 @@ query_under-returns-in_err-first-clause-longer g t c = subst (IsLonger c.args.ca
 pub query_under-returns-clause-longer : goal.query_under-returns-clause-longer
 query_under-returns-clause-longer g t c = subst (IsLonger c.args.catalog.now) (sym (c.joined.ensures.kept ∙ c.in_ok-first.ensures.kept)) c.in_ok-free.ensures.longer
 
+-- what the parts of a query tell, one after another
+pub query_under-returns-clause-told : goal.query_under-returns-clause-told
+query_under-returns-clause-told g t c =
+    let s : Scope = scope_in c.args.session.now in
+    let names : Names = names_in c.args.session.now in
+    let q : Query = c.args.query.now in
+    let at : Standing = standing_at c.args.catalog.now c.args.next in
+    let now : Standing = standing_at c.heads_stood.new.catalog c.in_ok-free.free in
+    let heads_names = c.heads_stood.new.catalog.names in
+    let same : heads_names ≡ names_under_all c.args.catalog.now.names (tree.row (map (head_tree names) (out-Query q).heads.items)) =
+    subst (λ items. heads_names ≡ names_under_all c.args.catalog.now.names (tree.row (map (head_tree names) items))) c.deref.ensures.value c.in_ok-free.ensures.names in
+    let stands : Heads s at (tree.row (map (head_tree names) (out-Query q).heads.items)) (Ok now) =
+    subst (λ items. Heads s at (tree.row (map (head_tree names) items)) (Ok now)) c.deref.ensures.value c.in_ok-free.ensures.due in
+    let heads_told = subst (λ items. Tells s (EvaluatesHeads s c.args.catalog.now.names at (tree.row (map (head_tree names) items))) c.args.told.now c.heads_stood.new.told) c.deref.ensures.value c.in_ok-free.ensures.told in
+    if_told c.joined.result _ _
+    (λ later. query_tells s names c.args.catalog.now.names heads_names at now q c.in_ok-first.first c.args.told.now c.heads_stood.new.told c.term_made.new.told c.joined.new.told same stands c.in_ok-first.ensures.due heads_told
+    c.in_ok-first.ensures.told
+    (subst (λ (n : NamedGraphs). Tells s (EvaluatesLater s n.names n.graphs c.in_ok-first.first (tree.row (map (next_term_tree names) (out-Query q).rest.items))) c.term_made.new.told c.joined.new.told) c.in_ok-first.ensures.kept
+    (subst (λ items. Tells s (EvaluatesLater s c.term_made.new.catalog.names c.term_made.new.catalog.graphs c.in_ok-first.first (tree.row (map (next_term_tree names) items))) c.term_made.new.told c.joined.new.told) c.deref-2.ensures.value later)))
+    c.joined.ensures.told
+
 pub heads_stood-loop-head-init : goal.heads_stood-loop-head-init
-heads_stood-loop-head-init g t c = record { built = c.requires.built; rises = omega arith; later = c.requires.later; most = c.requires.most; longer = as_long c.args.catalog.now; come = λ h m. own_comes c.args.catalog.now.graphs c.args.next c.args.next h m; leads = λ under h. h }
+heads_stood-loop-head-init g t c = record { built = c.requires.built; rises = omega arith; later = c.requires.later; most = c.requires.most; longer = as_long c.args.catalog.now; come = λ h m. own_comes c.args.catalog.now.graphs c.args.next c.args.next h m; leads = λ under h. h; names = refl; so_far = []; gained = gained_none (scope_in c.args.session.now) c.args.told.now; evaluated = λ later e. e }
 
 pub heads_stood-head_stood-requires : goal.heads_stood-head_stood-requires
 heads_stood-head_stood-requires g t c κs within =
@@ -239,7 +286,39 @@ heads_stood-loop-head-preserved g t c =
       leads = λ under h. inv.leads under
           (subst (λ heads. Heads s (standing_at c.loop-head.catalog c.loop-head.free) (tree.row (map (head_tree names) heads)) under) (sym (drop_at c.args.heads.now c.loop-head.head-index c.head-item.result at))
           (goes_on s (standing_at c.loop-head.catalog c.loop-head.free) now (head_tree names c.head-item.result) (tree.row (map (head_tree names) (drop (c.loop-head.head-index + 1) c.args.heads.now))) under c.in_ok-free.ensures.due h));
+      names = ap (λ ns. names_under_all ns (tree.row (map (head_tree names) (drop (c.loop-head.head-index + 1) c.args.heads.now)))) c.in_ok-free.ensures.names
+          ∙ (sym (ap (λ heads. names_under_all c.loop-head.catalog.names (tree.row (map (head_tree names) heads))) (drop_at c.args.heads.now c.loop-head.head-index c.head-item.result at)) ∙ inv.names);
+      so_far = inv.so_far ++ c.in_ok-free.ensures.told.0;
+      gained = gained_more s c.args.told.now c.loop-head.told c.head_stood.new.told inv.so_far c.in_ok-free.ensures.told.0 inv.gained c.in_ok-free.ensures.told.2;
+      evaluated = λ later e. subst (EvaluatesHeads s c.args.catalog.now.names (standing_at c.args.catalog.now c.args.next) (tree.row (map (head_tree names) c.args.heads.now))) (sym (append_assoc inv.so_far c.in_ok-free.ensures.told.0 later))
+          (inv.evaluated (c.in_ok-free.ensures.told.0 ++ later)
+          (subst (λ heads. EvaluatesHeads s c.loop-head.catalog.names (standing_at c.loop-head.catalog c.loop-head.free) (tree.row (map (head_tree names) heads)) (c.in_ok-free.ensures.told.0 ++ later)) (sym (drop_at c.args.heads.now c.loop-head.head-index c.head-item.result at))
+          (one_head s c.loop-head.catalog.names (standing_at c.loop-head.catalog c.loop-head.free) now (head_tree names c.head-item.result) (tree.row (map (head_tree names) (drop (c.loop-head.head-index + 1) c.args.heads.now))) (c.in_ok-free.ensures.told.0 ++ later) c.in_ok-free.ensures.due (
+            c.in_ok-free.ensures.told.0,
+            later,
+            c.in_ok-free.ensures.told.1,
+            subst (λ ns. EvaluatesHeads s ns now (tree.row (map (head_tree names) (drop (c.loop-head.head-index + 1) c.args.heads.now))) later) c.in_ok-free.ensures.names e,
+            refl,
+          ))));
     }
+
+pub heads_stood-returns-clause-names : goal.heads_stood-returns-clause-names
+heads_stood-returns-clause-names g t c =
+    let names : Names = names_in c.args.session.now in
+    let none : drop c.loop-head.head-index c.args.heads.now ≡ [] = drop_all c.loop-head.head-index c.args.heads.now (omega arith) in
+    sym (ap (λ heads. names_under_all c.loop-head.catalog.names (tree.row (map (head_tree names) heads))) none) ∙ c.loop-head.invariant.names
+
+-- where no head is left, nothing more is evaluated
+pub heads_stood-returns-clause-told : goal.heads_stood-returns-clause-told
+heads_stood-returns-clause-told g t c =
+    let s : Scope = scope_in c.args.session.now in
+    let names : Names = names_in c.args.session.now in
+    let inv = c.loop-head.invariant in
+    let here : Standing = standing_at c.loop-head.catalog c.loop-head.free in
+    let none : drop c.loop-head.head-index c.args.heads.now ≡ [] = drop_all c.loop-head.head-index c.args.heads.now (omega arith) in
+    let all : EvaluatesHeads s c.args.catalog.now.names (standing_at c.args.catalog.now c.args.next) (tree.row (map (head_tree names) c.args.heads.now)) (inv.so_far ++ []) =
+    inv.evaluated [] (subst (λ heads. EvaluatesHeads s c.loop-head.catalog.names here (tree.row (map (head_tree names) heads)) []) (sym none) (no_heads s c.loop-head.catalog.names here)) in
+    (inv.so_far, subst (EvaluatesHeads s c.args.catalog.now.names (standing_at c.args.catalog.now c.args.next) (tree.row (map (head_tree names) c.args.heads.now))) (append-nil inv.so_far) all, inv.gained)
 
 pub heads_stood-returns-in_err-free-clause-due : goal.heads_stood-returns-in_err-free-clause-due
 heads_stood-returns-in_err-free-clause-due g t c =
@@ -300,6 +379,42 @@ head_stood-returns-in_ok-made-in-Graph-clause-due g t c =
     let same : with c.query_made.new.catalog ≡ Ok (with_made at made) = ap with c.in_ok-made-in-Graph.ensures.kept in
     stands_on (Heads s at (tree.more (head_tree names c.args.head.now) tree.none)) (λ under. under ≡ with c.query_made.new.catalog) c.stand.new.catalog c.stand.result
     (λ under is. subst (λ t. Heads s at (tree.more t tree.none) under) (sym e) (names_graph s at (named_by (name_of names) c.in-Graph.name) query made under c.in_ok-made-in-Graph.ensures.due (is ∙ same))) c.stand.ensures.due
+
+pub head_stood-returns-in-Path-clause-names : goal.head_stood-returns-in-Path-clause-names
+head_stood-returns-in-Path-clause-names g t c =
+    let names : Names = names_in c.args.session.now in
+    sym (ap (names_under c.args.catalog.now.names) (ap (head_tree names) c.in-Path.is ∙ path_head names c.in-Path.name c.in-Path.chains c.in-Path.filter c.in-Path.cost))
+
+pub head_stood-returns-in-Path-clause-told : goal.head_stood-returns-in-Path-clause-told
+head_stood-returns-in-Path-clause-told g t c =
+    let s : Scope = scope_in c.args.session.now in
+    let names : Names = names_in c.args.session.now in
+    let at : Standing = standing_at c.args.catalog.now c.args.next in
+    tells_none s _ c.args.told.now
+    (subst (λ t. EvaluatesHead s c.args.catalog.now.names at t []) (sym (ap (head_tree names) c.in-Path.is ∙ path_head names c.in-Path.name c.in-Path.chains c.in-Path.filter c.in-Path.cost))
+    (no_head s c.args.catalog.now.names at _ _ _ _))
+
+pub head_stood-returns-in_ok-made-in-Graph-clause-names : goal.head_stood-returns-in_ok-made-in-Graph-clause-names
+unfolding head_by query_by
+head_stood-returns-in_ok-made-in-Graph-clause-names g t c =
+    let names : Names = names_in c.args.session.now in
+    let e : head_tree names c.args.head.now ≡ tree.GraphHead (named_by (name_of names) c.in-Graph.name) (query_tree names c.in-Graph.query) = rw c.in-Graph.is (search (rules, the_lemmas)) in
+    let under = names_under c.args.catalog.now.names (head_tree names c.args.head.now) in
+    if_told c.stand.result _ _
+    (λ is. is ∙ (ap (λ (n : NamedGraphs). n.names ++ free_word n.names (named_by (name_of names) c.in-Graph.name).name ∷ []) c.in_ok-made-in-Graph.ensures.kept ∙ sym (ap (names_under c.args.catalog.now.names) e)))
+    c.stand.ensures.names
+
+pub head_stood-returns-in_ok-made-in-Graph-clause-told : goal.head_stood-returns-in_ok-made-in-Graph-clause-told
+unfolding head_by query_by
+head_stood-returns-in_ok-made-in-Graph-clause-told g t c =
+    let s : Scope = scope_in c.args.session.now in
+    let names : Names = names_in c.args.session.now in
+    let at : Standing = standing_at c.args.catalog.now c.args.next in
+    let e : head_tree names c.args.head.now ≡ tree.GraphHead (named_by (name_of names) c.in-Graph.name) (query_tree names c.in-Graph.query) = rw c.in-Graph.is (search (rules, the_lemmas)) in
+    always c.stand.result _
+    (tells_as s _ _ c.args.told.now c.query_made.new.told
+    (λ all h. subst (λ t. EvaluatesHead s c.args.catalog.now.names at t all) (sym e) (graph_head s c.args.catalog.now.names at (named_by (name_of names) c.in-Graph.name) (query_tree names c.in-Graph.query) all h))
+    c.in_ok-made-in-Graph.ensures.told)
 
 pub head_stood-stand-requires-clause-comes : goal.head_stood-stand-requires-clause-comes
 head_stood-stand-requires-clause-comes g t c =
@@ -373,3 +488,39 @@ term_made-returns-in-Basic-clause-comes g t c =
 pub term_made-returns-in-Graph-clause-comes : goal.term_made-returns-in-Graph-clause-comes
 term_made-returns-in-Graph-clause-comes g t c =
     subst (λ (gs : List PropertyGraph). ComesOf gs c.args.next c.graph_named.result) c.graphs-in-Graph.ensures.graphs c.graph_named.ensures.comes
+
+pub term_made-returns-in-Basic-clause-told : goal.term_made-returns-in-Basic-clause-told
+term_made-returns-in-Basic-clause-told g t c =
+    let s : Scope = scope_in c.args.session.now in
+    let names : Names = names_in c.args.session.now in
+    let named = c.args.catalog.now.names in
+    let at : Standing = standing_at c.args.catalog.now c.args.next in
+    if_told c.basic_made.result _ _
+    (λ told. tells_as s _ _ c.args.told.now c.basic_made.new.told
+    (λ all h. subst (λ x. EvaluatesTerm s named at (term_tree names x) all) (sym c.in-Basic.is)
+    (basic_evaluates s names named at c.in-Basic.basic all (subst (λ (b : Basic). EvaluatesBasic s named at.graphs (basic_tree names b) all) c.deref.ensures h)))
+    (subst (λ (gs : List PropertyGraph). Tells s (EvaluatesBasic s named gs (basic_tree names c.deref.result.now)) c.args.told.now c.basic_made.new.told) c.graphs.ensures.graphs told))
+    c.basic_made.ensures.told
+
+pub term_made-returns-in-Graph-clause-told : goal.term_made-returns-in-Graph-clause-told
+unfolding term_by
+term_made-returns-in-Graph-clause-told g t c =
+    let s : Scope = scope_in c.args.session.now in
+    let names : Names = names_in c.args.session.now in
+    let at : Standing = standing_at c.args.catalog.now c.args.next in
+    let e : term_tree names c.args.term.now ≡ tree.GraphTerm (named_by (name_of names) c.in-Graph.name) = rw c.in-Graph.is (search (rules, the_lemmas)) in
+    always c.graph_named.result _
+    (tells_none s _ c.args.told.now (subst (λ t. EvaluatesTerm s c.args.catalog.now.names at t []) (sym e) (graph_evaluates s c.args.catalog.now.names at (named_by (name_of names) c.in-Graph.name))))
+
+pub term_made-returns-in-Query-clause-told : goal.term_made-returns-in-Query-clause-told
+term_made-returns-in-Query-clause-told g t c =
+    let s : Scope = scope_in c.args.session.now in
+    let names : Names = names_in c.args.session.now in
+    let named = c.args.catalog.now.names in
+    let at : Standing = standing_at c.args.catalog.now c.args.next in
+    if_told c.query_made.result _ _
+    (λ told. tells_as s _ _ c.args.told.now c.query_made.new.told
+    (λ all h. subst (λ x. EvaluatesTerm s named at (term_tree names x) all) (sym c.in-Query.is)
+    (inner_evaluates s names named at c.in-Query.query all (subst (λ (q : Query). Evaluates s named at (query_tree names q) all) c.deref-in-Query.ensures h)))
+    told)
+    c.query_made.ensures.told

@@ -5,7 +5,7 @@ use Rattle.gcore.specs.Endings.{Change}
 use Rattle.gcore.specs.Outcomes.{graph_names, query_file_due}
 use Rattle.gcore.specs.QueryFiles.{PlacedFile, placed}
 use Rattle.gcore.proofs.GraphsRead.{graphs_differ}
-use Rattle.gcore.proofs.RunLaws.{room_holds, written}
+use Rattle.gcore.proofs.RunLaws.{run_room, written}
 use Rattle.gcore.proofs.answer.run_query.Goals as goal
 
 pub read_graphs-requires : goal.read_graphs-requires
@@ -25,7 +25,7 @@ run_session-written-requires-clause-room g c =
     let told = g.F.Folder.files c.args.folder.now in
     let file = placed c.in_ok-checked.checked in
     let read = file_read (g.F.Folder.files c.read_graphs.new.folder) told c.in_ok-names.names (graph_names c.args.pairs.now) c.args.query.now file c.in_ok-catalog.ensures.kept c.in_ok-names.ensures c.in_ok-checked.ensures.outcome in
-    room_holds c.args.query.now c.args.pairs.now told c.in_ok-catalog.catalog.graphs file (g.S.Sink.room c.args.out.now) c.requires.room c.in_ok-catalog.ensures.outcome.2 read
+    run_room c.args.query.now c.args.pairs.now told c.in_ok-catalog.catalog.graphs file (g.S.Sink.room c.args.out.now) c.requires.room c.in_ok-catalog.ensures.outcome.2 read
 
 pub returns-clause-outcome : goal.returns-clause-outcome
 returns-clause-outcome g c =

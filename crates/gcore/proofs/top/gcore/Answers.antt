@@ -1,9 +1,9 @@
-use Rattle.std.proofs.Common.{ℕ, suc, List, [], ◌∷◌, ◌++◌, map, Some, None, Option, refl, sym, subst, arith, inl, inr}
+use Rattle.std.proofs.Common.{◌≡◌, Ok, ℕ, suc, List, [], ◌∷◌, ◌++◌, map, Some, None, Option, refl, sym, subst, arith, inl, inr}
 use Rattle.std.specs.Prelude.{IfSome, IsSomeAnd, Contains}
 use Rattle.gc_base.specs.Files.{Files}
-use Rattle.gcore.specs.Endings.{Call, Change, EndsAt, EndsAtFault, IsTurnOf, IsTurnOfGraph, IsTurnOfItsQuery, IsTurnOfItsSession, HasQuery, HasSession, MayStop, StopsFor, graphs_of, graph_files, named_files}
+use Rattle.gcore.specs.Endings.{Call, Change, EndsAt, FaultsAt, IsTurnOf, IsTurnOfGraph, IsTurnOfItsQuery, IsTurnOfItsSession, HasQuery, HasSession, MayStop, StopsFor, graphs_of, graph_files, named_files}
 use Rattle.gcore.specs.GraphSteps.{IsHeldStop}
-use Rattle.gcore.specs.Outcomes.{IsAsked, Request, outcome}
+use Rattle.gcore.specs.Outcomes.{Checks, Explains, Runs, Task, outcome}
 use Rattle.gcore.specs.declared.command.Command.{Command}
 use Rattle.gcore.specs.declared.command.Command.TheVariants.{Run, Cert, Explain, Check, Make}
 use Rattle.gcore.specs.declared.pair.Pair.{Pair}
@@ -33,7 +33,8 @@ is_named None told file h = absurd h
 is_named (Some (Run query pairs)) told file (inl turn) = one_more (files_of pairs) file query (is_graph_file told pairs file turn)
 is_named (Some (Run query pairs)) told file (inr turn) = (0, omega arith, sym turn.0)
 is_named (Some (Cert query pairs)) told file h = absurd h
-is_named (Some (Explain query pairs)) told file h = absurd h
+is_named (Some (Explain query pairs)) told file (inl turn) = one_more (files_of pairs) file query (is_graph_file told pairs file turn)
+is_named (Some (Explain query pairs)) told file (inr turn) = (0, omega arith, sym turn.0)
 is_named (Some (Check document)) told file h = (0, omega arith, sym h)
 is_named (Some (Make kind size start)) told file h = absurd h
 
@@ -45,7 +46,7 @@ has_query : (command : Option Command) (told : Option Files) → IsSomeAnd comma
 has_query None told h = absurd h
 has_query (Some (Run query pairs)) told h = tt
 has_query (Some (Cert query pairs)) told h = absurd h
-has_query (Some (Explain query pairs)) told h = absurd h
+has_query (Some (Explain query pairs)) told h = tt
 has_query (Some (Check document)) told h = absurd h
 has_query (Some (Make kind size start)) told h = absurd h
 
@@ -53,15 +54,20 @@ has_session : (command : Option Command) (told : Option Files) → IsSomeAnd com
 has_session None told h = absurd h
 has_session (Some (Run query pairs)) told h = tt
 has_session (Some (Cert query pairs)) told h = absurd h
-has_session (Some (Explain query pairs)) told h = absurd h
+has_session (Some (Explain query pairs)) told h = tt
 has_session (Some (Check document)) told h = absurd h
 has_session (Some (Make kind size start)) told h = tt
 
 -- what is due at a fault
+ends_by : (told : Files) (command : Option Command) (out : Change) (stop : Stop) (task : Task) → outcome command told ≡ Ok task → FaultsAt task out stop → EndsAt (Some told) command stop
+ends_by told command out stop (Runs r) due h = (Runs r, r, h.0, h.1, due, refl, h.2, h.3)
+ends_by told command out stop (Explains r) due h = (Explains r, r, h.0, h.1, due, refl, h.2, h.3)
+ends_by told command out stop (Checks bytes) due h = absurd h
+
 ends : (told : Option Files) (command : Option Command) (out : Change) (stop : Stop)
-    → IfSome told (λ files. (r : Request) × IsAsked (outcome command files) r × EndsAtFault r out stop) → EndsAt told command stop
+    → IfSome told (λ files. (task : Task) × (outcome command files ≡ Ok task) × FaultsAt task out stop) → EndsAt told command stop
 ends None command out stop h = tt
-ends (Some files) command out stop h = (h.0, h.2.0, h.2.1, h.1, h.2.2, h.2.3)
+ends (Some files) command out stop h = ends_by files command out stop h.0 h.1 h.2
 
 may_stop : (call : Call) (stop : Stop) → IsHeldStop stop → StopsFor call stop → MayStop call.files call.command stop
 may_stop call Usage held h = tt

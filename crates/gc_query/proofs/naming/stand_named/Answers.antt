@@ -2,7 +2,7 @@ use Rattle.std.proofs.Common.{sym, ◌∙◌, subst}
 use Rattle.gc_ast.specs.PatternViews.{named}
 use Rattle.gc_catalog.specs.AddRefusals.{IsAddRefusal}
 use Rattle.gc_query.proofs.FreeWords.{not_taken}
-use Rattle.gc_query.proofs.graph_views.add_view.Goals as goal
+use Rattle.gc_query.proofs.naming.stand_named.Goals as goal
 
 pub unreachable-requires : goal.unreachable-requires
 unreachable-requires c =

@@ -1,0 +1,185 @@
+ghost use Rattle.std.specs.Prelude.{◌≡◌, ◌∷◌, ◌++◌, [], map, IfOk, OnOk};
+ghost use Rattle.std.specs.List.{flat_map};
+ghost use Rattle.std.specs.Option.{option_copied};
+ghost use Rattle.gc_alg.specs.Views.{block_tree};
+ghost use Rattle.gc_ast.specs.QueryViews.{head_tree};
+ghost use Rattle.gc_ast.specs.PatternViews.{named};
+ghost use Rattle.gc_explain_query.specs.QueryLines.{view_of};
+ghost use Rattle.gc_query.specs.Answered.{names_in, scope_in};
+ghost use Rattle.gc_query.specs.Logs.{IsToldOf, explained_head, explained_on, explained_view, named_view, word_if};
+ghost use Rattle.gc_query.specs.UsedViews.{in_turn, uses_of};
+
+use crate::log::{Told, Wants};
+use crate::path_heads::path_heads;
+use crate::session::Session;
+use crate::used_views::{ViewOn, uses_of};
+use gc_alg::Block;
+use gc_ast::Head;
+use gc_base::{Bytes, Duplicate, Memory, Name, NameAt};
+use gc_catalog::Catalog;
+use gc_explain_query::{ExplainedView, query_lines};
+use gc_lower::lower_view;
+use gc_ppg::GraphList;
+
+/// Tells what is wanted of a CONSTRUCT that was evaluated, by the block of its MATCH, over graphs which have their
+/// names in a catalog.
+pub(crate) fn tell(
+    session: &Session<'_>,
+    named: &Catalog,
+    graphs: &GraphList,
+    block: &Block,
+    told: &mut Told,
+) -> Result<(), Memory>
+    ensures { OnOk result (IsToldOf (scope_in session.now) named.now.names graphs.now (block_tree block.now) told.old told.new) }
+{
+    match told.wants() {
+        Wants::Nothing => Ok(()),
+        Wants::Plans => {
+            let lines = lines_of(session, named, graphs, block, told.next_number())?;
+            told.push(lines)
+        }
+    }
+}
+
+// The lines that explain a CONSTRUCT of a number.
+fn lines_of(
+    session: &Session<'_>,
+    named: &Catalog,
+    graphs: &GraphList,
+    block: &Block,
+    number: u64,
+) -> Result<Bytes, Memory>
+    ensures { IfOk result (λ lines. lines ≡ explained_on (scope_in session.now) number named.now.names graphs.now (block_tree block.now)) }
+{
+    let uses = uses_of(session.alloc, block)?;
+    let views = views_of(session, named, &uses)?;
+    query_lines(session.alloc, number, &views, block, graphs)
+}
+
+// Views as they are explained, in the order of the heads that declare them.
+fn views_of(
+    session: &Session<'_>,
+    named: &Catalog,
+    uses: &[ViewOn],
+) -> Result<Vec<ExplainedView>, Memory>
+    ensures { IfOk result (λ views. map view_of views.items
+        ≡ flat_map (explained_view (scope_in session.now) named.now.names) (in_turn 0 (scope_in session.now).views uses.now)) }
+{
+    let mut views = Vec::new(session.alloc);
+    if uses.is_empty() {
+        return Ok(views);
+    }
+    let heads = path_heads(session.alloc, session.checked.file())?;
+    for (number, head) in heads.iter().enumerate() {
+        push_uses(session, named, head, number, uses, &mut views)?;
+    }
+    Ok(views)
+}
+
+// Adds the uses of the view of a head, which has a number.
+fn push_uses(
+    session: &Session<'_>,
+    named: &Catalog,
+    head: &Head,
+    number: usize,
+    uses: &[ViewOn],
+    views: &mut Vec<ExplainedView>,
+) -> Result<(), Memory>
+    ensures { OnOk result (map view_of views.new.items ≡ map view_of views.old.items
+        ++ flat_map (explained_view (scope_in session.now) named.now.names) (uses_of (head_tree (names_in session.now) head.now) number uses.now)) }
+{
+    for used in uses {
+        push_use(session, named, head, number, used, views)?;
+    }
+    Ok(())
+}
+
+// Adds a use, if it is one of the view of a head.
+fn push_use(
+    session: &Session<'_>,
+    named: &Catalog,
+    head: &Head,
+    number: usize,
+    used: &ViewOn,
+    views: &mut Vec<ExplainedView>,
+) -> Result<(), Memory>
+    ensures { OnOk result (map view_of views.new.items ≡ map view_of views.old.items
+        ++ flat_map (explained_view (scope_in session.now) named.now.names) (uses_of (head_tree (names_in session.now) head.now) number (used.now ∷ []))) }
+{
+    if used.view as usize != number {
+        return Ok(());
+    }
+    push_view(session, named, head, used.graph, views)
+}
+
+// Adds the view of a head on the graph of a number, where this has a name.
+fn push_view(
+    session: &Session<'_>,
+    named: &Catalog,
+    head: &Head,
+    graph: u32,
+    views: &mut Vec<ExplainedView>,
+) -> Result<(), Memory>
+    ensures { OnOk result (map view_of views.new.items ≡ map view_of views.old.items
+        ++ explained_head (scope_in session.now) named.now.names graph (head_tree (names_in session.now) head.now)) }
+{
+    match head {
+        Head::Path {
+            name,
+            chains,
+            filter,
+            cost: _,
+        } => {
+            let view = Located {
+                name: word_at(session, *name),
+                graph: named.name_at(graph),
+            };
+            let lowered = lower_view(session.alloc, session.checked, chains, filter, graph)?;
+            push_named(&view, lowered.block, views)
+        }
+        Head::Graph { .. } => Ok(()),
+    }
+}
+
+// The names of a view and of a graph, where they have some.
+#[derive(Drop)]
+struct Located<'a> {
+    name: Option<&'a Name>,
+    graph: Option<&'a Name>,
+}
+
+// Adds a view on a graph by its block, where both have names.
+fn push_named(
+    view: &Located<'_>,
+    block: Block,
+    views: &mut Vec<ExplainedView>,
+) -> Result<(), Memory>
+    ensures { OnOk result (map view_of views.new.items ≡ map view_of views.old.items
+        ++ named_view (option_copied view.now.name) (option_copied view.now.graph) (block_tree block)) }
+{
+    match (view.name, view.graph) {
+        (Some(name), Some(graph)) => {
+            views.push(ExplainedView {
+                name: name.copy()?,
+                graph: graph.copy()?,
+                block,
+            })?;
+            Ok(())
+        }
+        _ => Ok(()),
+    }
+}
+
+// The word at a place, where there is one.
+fn word_at<'a>(session: &Session<'a>, name: NameAt) -> Option<&'a Name>
+    ensures { option_copied result ≡ word_if (named (names_in session.now) name).name }
+{
+    let names = &session.checked.file().names;
+    if name.sym.0 < names.len() {
+        let word = names.name(name.sym);
+        let _word = word.bytes();
+        Some(word)
+    } else {
+        None
+    }
+}
