@@ -1,5 +1,5 @@
 -- What queries evaluate, part by part, and what a log gains of it.
-use Rattle.std.proofs.Common.{◌≡◌, ℕ, ◌+◌, List, [], ◌∷◌, ◌++◌, length, map, drop, append-nil, append_assoc, Option, Some, OnOk, Result, Ok, Err, Box, Global, refl, sym, ap, ◌∙◌, subst, arith, slice_get}
+use Rattle.std.proofs.Common.{◌≡◌, ℕ, suc, ◌+◌, List, [], ◌∷◌, ◌++◌, length, map, drop, append-nil, append_assoc, Option, Some, OnOk, Result, Ok, Err, Box, Global, refl, sym, ap, ◌∙◌, subst, arith, slice_get}
 use Rattle.std.proofs.lemmas.List.{length-append}
 use Rattle.gc_ast.specs.declared.construct.Change.TheViews as term
 use Rattle.gc_ast.specs.declared.query.Basic.{Basic}
@@ -16,7 +16,7 @@ use Rattle.gc_spec.specs.PropertyGraph.{PropertyGraph}
 use Rattle.gc_prod.specs.Segments.{Segments}
 use Rattle.gc_rows.specs.Tables.{Relation}
 use Rattle.gc_lower.specs.Blocks.{block_of}
-use Rattle.gc_query.specs.Evaluations.{evaluation, Evaluates, EvaluatesBasic, EvaluatesHead, EvaluatesHeads, EvaluatesLater, EvaluatesTerm, EvaluatesTerms, Evaluation, InTurn, names_under, names_under_all}
+use Rattle.gc_query.specs.Evaluations.{evaluation, Evaluates, EvaluatesBasic, EvaluatesHead, EvaluatesHeads, EvaluatesLater, EvaluatesTerm, Evaluation, InTurn, names_under, names_under_all}
 use Rattle.gc_query.specs.Logs.{GainsAs, IsGained, IsToldOf, Log, Tells, ToldAs, behind, explained, explained_after, with_told}
 use Rattle.gc_query.specs.Queries.{Combines, DenotesTerm, Heads}
 use Rattle.gc_query.specs.Standings.{Made, Standing}
@@ -46,7 +46,7 @@ module _ (s : Scope) where
 
   pub as_many : (before : ℕ) (xs : List Evaluation) → length (explained_after s before xs) ≡ length xs
   as_many before [] = refl
-  as_many before (x ∷ xs) = ap (λ n. n + 1) (as_many (before + 1) xs)
+  as_many before (x ∷ xs) = ap suc (as_many (before + 1) xs)
 
   -- nothing is gained of nothing
   pub gained_none : (log : Log) → IsGained s log [] log
@@ -162,15 +162,12 @@ module _ (s : Scope) where
       subst (λ rows. EvaluatesLater s named graphs left rows all) (sym (next_row s names rest i x at)) (one_later named graphs left right both (out-NextTerm x).op _ _ all d c t)
 
   -- a query, by its heads and its terms
-  terms_evaluate : (named : Named-graphs) (at : Standing) (first : Tree ATerm) (rest : Tree (RowOf ANextTerm)) (left : Made) (all : List Evaluation) → DenotesTerm s at first (Ok left)
-      → InTurn (EvaluatesTerm s named at first) (EvaluatesLater s named at.graphs left rest) all → EvaluatesTerms s named at first rest all
+  whole : (named : Named-graphs) (at under : Standing) (left : Made) (heads : Tree (RowOf AHead)) (first : Tree ATerm) (rest : Tree (RowOf ANextTerm)) (all : List Evaluation)
+      → Heads s at heads (Ok under) → DenotesTerm s under first (Ok left)
+      → InTurn (EvaluatesHeads s named at heads) (InTurn (EvaluatesTerm s (names_under_all named heads) under first) (EvaluatesLater s (names_under_all named heads) under.graphs left rest)) all
+      → Evaluates s named at (tree.Query heads first rest) all
   unfolding Evaluates
-  terms_evaluate named at first rest left all d t = (left, d, t)
-
-  whole : (named : Named-graphs) (at under : Standing) (heads : Tree (RowOf AHead)) (first : Tree ATerm) (rest : Tree (RowOf ANextTerm)) (all : List Evaluation) → Heads s at heads (Ok under)
-      → InTurn (EvaluatesHeads s named at heads) (EvaluatesTerms s (names_under_all named heads) under first rest) all → Evaluates s named at (tree.Query heads first rest) all
-  unfolding Evaluates
-  whole named at under heads first rest all h t = (under, h, t)
+  whole named at under left heads first rest all h d t = (under, left, h, d, t)
 
   module _ (names : Names) (named later : Named-graphs) (at under : Standing) (q : Query) (left : Made) where
     abbrev heads : Tree (RowOf AHead)
@@ -186,7 +183,6 @@ module _ (s : Scope) where
     pub query_tells : (a b c d : Log) → later ≡ names_under_all named heads → Heads s at heads (Ok under) → DenotesTerm s under first (Ok left) → Tells s (EvaluatesHeads s named at heads) a b
         → Tells s (EvaluatesTerm s later under first) b c → Tells s (EvaluatesLater s later under.graphs left rest) c d → Tells s (Evaluates s named at (query_tree names q)) a d
     query_tells a b c d same stands denotes h t l =
-        let terms : Tells s (EvaluatesTerms s later under first rest) b d =
-        tells_as _ _ b d (λ all x. terms_evaluate later under first rest left all denotes x) (tells_turn _ _ b c d t l) in
-        let under_all : Tells s (EvaluatesTerms s (names_under_all named heads) under first rest) b d = subst (λ ns. Tells s (EvaluatesTerms s ns under first rest) b d) same terms in
-        tells_as _ _ a d (λ all x. subst (λ t. Evaluates s named at t all) (sym (query_parts names q)) (whole named at under heads first rest all stands x)) (tells_turn _ _ a b d h under_all)
+        let own : (ns : Named-graphs) → Type 0 = λ ns. Tells s (InTurn (EvaluatesTerm s ns under first) (EvaluatesLater s ns under.graphs left rest)) b d in
+        let terms : own (names_under_all named heads) = subst own same (tells_turn _ _ b c d t l) in
+        tells_as _ _ a d (λ all x. subst (λ t. Evaluates s named at t all) (sym (query_parts names q)) (whole named at under left heads first rest all stands denotes x)) (tells_turn _ _ a b d h terms)

@@ -54,16 +54,12 @@ abbrev pub InTurn : (first later : List Evaluation → Type 0) → List Evaluati
 InTurn First Later all = (first : List Evaluation) × (later : List Evaluation) × First first × Later later × (all ≡ first ++ later)
 
 unfoldable mutual
-  -- what a query evaluates: what its heads do, and then its terms, over what stands under them
+  -- what a query evaluates: what its heads do, and then its terms from the first, over what stands under them
   pub Evaluates : Scope → List (Option (List ℕ)) → Standing → Tree AQuery → List Evaluation → Type 0
   Evaluates s names at (Query heads first rest) =
-      λ all. (under : Standing) × Heads s at heads (Ok under)
-      × InTurn (EvaluatesHeads s names at heads) (EvaluatesTerms s (names_under_all names heads) under first rest) all
-
-  -- terms, from the first
-  pub EvaluatesTerms : Scope → List (Option (List ℕ)) → Standing → Tree ATerm → Tree (RowOf ANextTerm) → List Evaluation → Type 0
-  EvaluatesTerms s names at first rest =
-      λ all. (left : Made) × DenotesTerm s at first (Ok left) × InTurn (EvaluatesTerm s names at first) (EvaluatesLater s names at.graphs left rest) all
+      λ all. (under : Standing) × (left : Made) × Heads s at heads (Ok under) × DenotesTerm s under first (Ok left)
+      × InTurn (EvaluatesHeads s names at heads)
+      (InTurn (EvaluatesTerm s (names_under_all names heads) under first) (EvaluatesLater s (names_under_all names heads) under.graphs left rest)) all
 
   -- heads, one after another; a view is evaluated where it is used
   pub EvaluatesHeads : Scope → List (Option (List ℕ)) → Standing → Tree (RowOf AHead) → List Evaluation → Type 0

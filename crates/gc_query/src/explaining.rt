@@ -128,7 +128,7 @@ fn push_view(
             name,
             chains,
             filter,
-            cost: _,
+            cost,
         } => {
             let view = Located {
                 name: word_at(session, *name),

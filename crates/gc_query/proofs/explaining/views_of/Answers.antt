@@ -1,4 +1,4 @@
-use Rattle.std.proofs.Common.{◌≡◌, Some, length, map, slice_get, refl, sym, arith}
+use Rattle.std.proofs.Common.{◌≡◌, Some, length, map, slice_get, refl, sym, ap, ◌∙◌, arith}
 use Rattle.gc_ast.specs.declared.file.File.{File}
 use Rattle.gc_ast.specs.QueryViews.{head_tree}
 use Rattle.gc_explain_query.specs.QueryLines.{view_of}
@@ -13,7 +13,8 @@ use Rattle.gc_query.proofs.explaining.views_of.Goals as goal
 
 pub returns-then-is_empty : goal.returns-then-is_empty
 returns-then-is_empty c =
-    none_shown (answered.scope_in c.args.session.now) c.args.named.now.names (answered.scope_in c.args.session.now).views c.args.uses.now (empty_list c.args.uses.now (sym c.if-is_empty.ensures))
+    ap (map view_of) c.new-views.ensures.items
+    ∙ none_shown (answered.scope_in c.args.session.now) c.args.named.now.names (answered.scope_in c.args.session.now).views c.args.uses.now (empty_list c.args.uses.now (sym c.if-is_empty.ensures))
 
 pub loop-number-preserved : goal.loop-number-preserved
 unfolding scope_in

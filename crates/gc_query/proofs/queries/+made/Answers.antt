@@ -128,7 +128,6 @@ pub joined-returns-clause-told : goal.joined-returns-clause-told
 joined-returns-clause-told g t c =
     let s : Scope = scope_in c.args.session.now in
     let names : Names = names_in c.args.session.now in
-    let left : Made = record { graph = c.left.inside.graph; next = c.left.inside.next } in
     let graphs : List PropertyGraph = c.args.catalog.now.graphs in
     let inv = c.loop-later.invariant in
     let none : drop c.loop-later.later-index c.args.rest.now ≡ [] = drop_all c.loop-later.later-index c.args.rest.now (omega arith) in
