@@ -1,0 +1,4 @@
+pub mod NestedLines
+pub mod NestedQueries
+pub mod Printed
+pub mod QueryLines
