@@ -7,6 +7,7 @@ use Rattle.gc_catalog.specs.NamedGraphs.{NamedGraphs, AreBelow, IsCatalog}
 use Rattle.gc_lower.specs.Namings.{scope_of}
 use Rattle.gc_spec.specs.Coherence.{AreCoherent}
 use Rattle.gc_spec.specs.PropertyGraph.{PropertyGraph}
+use Rattle.gc_query.specs.Evaluations.{Evaluates, Evaluation}
 use Rattle.gc_query.specs.Logs.{Log, Tells, with_told}
 use Rattle.gc_query.specs.Queries.{Denotes}
 use Rattle.gc_query.specs.Standings.{Made}
@@ -65,9 +66,11 @@ returns-in-Ok-clause-step g c =
 pub returns-in-Ok-clause-log : goal.returns-in-Ok-clause-log
 returns-in-Ok-clause-log g c =
     let s = scope_of c.args.checked.now 0 in
-    subst (Tells s _ c.args.log.now) (sym c.in_ok-take.ensures.taken)
-    (tells_taken s _ c.args.log.now c.answered.new.told c.behind-told.ensures.begins
-    (subst (λ (l : Log). Tells s _ l c.answered.new.told) c.behind-told.ensures.told c.in_ok-made.ensures.told))
+    let query = query_tree c.args.checked.now.file.names c.args.query.now in
+    let are : List Evaluation → Type 0 = Evaluates s c.args.catalog.now.names (standing c.args.catalog.now) query in
+    subst (Tells s are c.args.log.now) (sym c.in_ok-take.ensures.taken)
+    (tells_taken s are c.args.log.now c.answered.new.told c.behind-told.ensures.begins
+    (subst (λ (l : Log). Tells s are l c.answered.new.told) c.behind-told.ensures.told c.in_ok-made.ensures.told))
 
 -- the first lines of a log that took more are those that it had
 first_lines : (log told after : Log) (n : ℕ) → n ≡ length log.lines → after ≡ with_told log told → record after { lines = take n after.lines } ≡ log
@@ -81,4 +84,4 @@ first_lines log told after n many taken =
 
 pub returns-in-Err-clause-log : goal.returns-in-Err-clause-log
 returns-in-Err-clause-log g c =
-    c.back_to-2.ensures ∙ first_lines c.args.log.now c.answered.new.told c.take.new.self c.len-lines.result (c.len-lines.ensures ∙ ap length c.lines.ensures) c.in_ok-take.ensures.taken
+    c.back_to-in-Err.ensures ∙ first_lines c.args.log.now c.answered.new.told c.take.new.self (length c.lines-lines.result.now) (ap length c.lines-lines.ensures) c.in_ok-take.ensures.taken

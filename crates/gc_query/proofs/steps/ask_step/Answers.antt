@@ -1,8 +1,9 @@
-use Rattle.std.proofs.Common.{◌≡◌, Ok, Err, refl, sym, ap, subst, ◌∙◌}
+use Rattle.std.proofs.Common.{◌≡◌, List, Ok, Err, refl, sym, ap, subst, ◌∙◌}
 use Rattle.gc_ast.specs.QueryViews.{query_tree}
 use Rattle.gc_ast.specs.Trees.{Ask}
 use Rattle.gc_lower.specs.Namings.{scope_of}
 use Rattle.gc_query.specs.Queries.{Denotes}
+use Rattle.gc_query.specs.Evaluations.{Evaluates, Evaluation}
 use Rattle.gc_query.specs.Logs.{Log, Tells}
 use Rattle.gc_query.specs.Standings.{Made}
 use Rattle.gc_query.specs.Steps.{standing, with_next}
@@ -32,6 +33,8 @@ returns-clause-step g c =
 pub returns-clause-log : goal.returns-clause-log
 returns-clause-log g c =
     let s = scope_of c.args.checked.now 0 in
-    subst (Tells s _ c.args.log.now) (sym c.in_ok-take.ensures.taken)
-    (tells_taken s _ c.args.log.now c.answered.new.told c.behind-told.ensures.begins
-    (subst (λ (l : Log). Tells s _ l c.answered.new.told) c.behind-told.ensures.told c.in_ok-made.ensures.told))
+    let query = query_tree c.args.checked.now.file.names c.args.query.now in
+    let are : List Evaluation → Type 0 = Evaluates s c.args.catalog.now.names (standing c.args.catalog.now) query in
+    subst (Tells s are c.args.log.now) (sym c.in_ok-take.ensures.taken)
+    (tells_taken s are c.args.log.now c.answered.new.told c.behind-told.ensures.begins
+    (subst (λ (l : Log). Tells s are l c.answered.new.told) c.behind-told.ensures.told c.in_ok-made.ensures.told))
