@@ -15,6 +15,7 @@ use Rattle.gc_query.specs.Standings.{Made, Standing}
 use Rattle.gc_query.specs.Steps.{IsStep, free_word, standing, with_named, with_next, with_view}
 use Rattle.gc_query.specs.declared.fault.Fault.{Fault}
 use Rattle.gc_query.specs.declared.log.Wants.{Wants}
+use Rattle.gc_query.specs.declared.log.Wants.TheVariants.{Nothing, Plans}
 use Rattle.gc_spec.specs.PropertyGraph.{PropertyGraph}
 use Rattle.gcore.specs.LoggedSessions.{HasLog, LogsSession, LogsStatement, IsFaulted, IsTold}
 use Rattle.gcore.specs.Outcomes.{Prints, Request, beginning}
@@ -72,6 +73,10 @@ module _ (r : Request) (names : List (Option (List ℕ))) (wants : Wants) where
     pub leads : (later : List Evaluation) → EvaluatesAll scope c.names (standing c) (drop i statements) later → EvaluatesAll scope names (beginning r.graphs) statements (all ++ later)
     pub gained : IsGained scope (new_log wants) all log
 
+  none_gained : (w : Wants) (log : Log) → log ≡ new_log w → IsGained scope (new_log w) [] log
+  none_gained Nothing log h = h
+  none_gained Plans log h = h
+
   -- none has at first
   pub at_start : (c : NamedGraphs) (log : Log) → standing c ≡ beginning r.graphs → c.names ≡ names → log ≡ new_log wants → IsEvaluatedSoFar 0 c log
   at_start c log stands named new =
@@ -80,7 +85,7 @@ module _ (r : Request) (names : List (Option (List ℕ))) (wants : Wants) where
         so_far = subst (λ at. IsSoFar r 0 at []) (sym stands) (at_first r);
         all = [];
         leads = λ later e. subst (λ ns. EvaluatesAll scope ns (beginning r.graphs) statements later) named (subst (λ at. EvaluatesAll scope c.names at statements later) stands e);
-        gained = new;
+        gained = none_gained wants log new;
       }
 
   first_evaluates : (at : Standing) (ns : List (Option (List ℕ))) (statement : Tree AStatement) (later : List (Tree AStatement)) (answer : Answer) (here rest : List Evaluation)

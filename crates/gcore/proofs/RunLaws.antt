@@ -55,13 +55,13 @@ pub record IsOverFiles (query : List ℕ) (pairs : List Pair) (command : Command
   pub asks : (files : Files) → command_due files command ≡ task_due task (run_due files query pairs)
   pub turns : (told : Option Files) (file : List ℕ) → IsTurnOfGraph told pairs file ⊎ IsTurnOfQuery told query pairs file → IsTurnOf told command file
   pub graphs : (told : Option Files) (file : List ℕ) → IsTurnOfGraph told pairs file → IsTurnOfGraph told (graphs_of command) file
-  pub query : (told : Option Files) → IsTurnOfQuery told query pairs query → IsTurnOfItsQuery told command
+  pub its_query : (told : Option Files) → IsTurnOfQuery told query pairs query → IsTurnOfItsQuery told command
 
 pub is_run : (query : List ℕ) (pairs : List Pair) → IsOverFiles query pairs (Run query pairs) Runs
-is_run query pairs = record { asks = λ files. refl; turns = λ told file h. h; graphs = λ told file h. h; query = λ told h. h }
+is_run query pairs = record { asks = λ files. refl; turns = λ told file h. h; graphs = λ told file h. h; its_query = λ told h. h }
 
 pub is_explain : (query : List ℕ) (pairs : List Pair) → IsOverFiles query pairs (Explain query pairs) Explains
-is_explain query pairs = record { asks = λ files. refl; turns = λ told file h. h; graphs = λ told file h. h; query = λ told h. h }
+is_explain query pairs = record { asks = λ files. refl; turns = λ told file h. h; graphs = λ told file h. h; its_query = λ told h. h }
 
 module _ (query : List ℕ) (pairs : List Pair) (command : Command) (task : Request → Task) (is : IsOverFiles query pairs command task) where
   abbrev names : List (List ℕ)
@@ -75,7 +75,7 @@ module _ (query : List ℕ) (pairs : List Pair) (command : Command) (task : Requ
       ∙ (ap (λ d. task_due task (then_due d (λ hs. then_due (query_file_due names files query) (request hs)))) a ∙ ap (λ d. task_due task (then_due d (request gs))) b)
 
   -- what is asked for over loaded graphs
-  abbrev over : List PropertyGraph → PlacedFile → Request
+  abbrev pub over : List PropertyGraph → PlacedFile → Request
   over gs file = record { graphs = gs; query = file; style = style.Text }
 
   asked_is : (files : Files) (gs : List PropertyGraph) (file : PlacedFile) → graphs_due files [] pairs ≡ Ok gs → query_file_due names files query ≡ Ok file
@@ -121,10 +121,10 @@ module _ (query : List ℕ) (pairs : List Pair) (command : Command) (task : Requ
   query_stops None gs before middle after faults taken (TooLarge file) graphs le h = (is.turns None file (inr (h.0, tt)), tt, refl)
   query_stops (Some files) gs before middle after faults taken (TooLarge file) graphs le h = (is.turns (Some files) file (inr (h.0, subst IsOk (sym graphs) refl)), due_stop files gs (TooLarge file) graphs h.1, refl)
   query_stops told gs before middle after faults taken (Refused refusal file) graphs le h = absurd h
-  query_stops None gs before middle after faults taken (Text refusal) graphs le h = (is.query None (refl, tt), tt, refl)
-  query_stops (Some files) gs before middle after faults taken (Text refusal) graphs le h = (is.query (Some files) (refl, subst IsOk (sym graphs) refl), due_stop files gs (Text refusal) graphs h, refl)
-  query_stops None gs before middle after faults taken (Sorts rule place) graphs le h = (is.query None (refl, tt), tt, refl)
-  query_stops (Some files) gs before middle after faults taken (Sorts rule place) graphs le h = (is.query (Some files) (refl, subst IsOk (sym graphs) refl), due_stop files gs (Sorts rule place) graphs h, refl)
+  query_stops None gs before middle after faults taken (Text refusal) graphs le h = (is.its_query None (refl, tt), tt, refl)
+  query_stops (Some files) gs before middle after faults taken (Text refusal) graphs le h = (is.its_query (Some files) (refl, subst IsOk (sym graphs) refl), due_stop files gs (Text refusal) graphs h, refl)
+  query_stops None gs before middle after faults taken (Sorts rule place) graphs le h = (is.its_query None (refl, tt), tt, refl)
+  query_stops (Some files) gs before middle after faults taken (Sorts rule place) graphs le h = (is.its_query (Some files) (refl, subst IsOk (sym graphs) refl), due_stop files gs (Sorts rule place) graphs h, refl)
   query_stops told gs before middle after faults taken (Certificate refusal) graphs le h = absurd h
   query_stops told gs before middle after faults taken (Rejected search rule) graphs le h = absurd h
   query_stops told gs before middle after faults taken NotBuilt graphs le h = absurd h

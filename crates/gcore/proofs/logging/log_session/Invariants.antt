@@ -8,4 +8,4 @@ use Rattle.gcore.proofs.logging.log_session.Given as goal
 -- the log has what the statements so far have evaluated
 abbrev pub invariant-loop-i : goal.invariant-loop-i
 invariant-loop-i g l =
-    IsEvaluatedSoFar (record { graphs = l.initial.catalog.graphs; query = placed l.checked; style = Text }) l.initial.catalog.names l.wants l.i l.catalog l.log
+    IsEvaluatedSoFar (record { graphs = l.initial.catalog.graphs; query = placed l.checked; style = Text }) l.initial.catalog.names l.fn.wants l.i l.catalog l.log
