@@ -27,7 +27,7 @@ use Rattle.gc_cert_searches.specs.Found.{HasWalk, IsDocFrom, IsFirst}
 use Rattle.gc_cert_searches.specs.Readings.{first_docs, potentials_in}
 use Rattle.gc_cert_searches.specs.Searches.{AreThose, IsReachedAt, IsTold}
 use Rattle.gc_cert_searches.proofs.Accepting.{are_bounded, are_covered, are_listed, begins_free, walks_least}
-use Rattle.gc_cert_searches.proofs.FirstDocs.{all_good}
+use Rattle.gc_cert_searches.proofs.FirstDocs.{all_ends, all_good}
 use Rattle.gc_cert_searches.proofs.Listing.{least_of, those}
 
 module _ (setting : Setting) (law : IsNetwork setting.network) (tree : RegexTree ARegex) (parts : HasParts tree) (is : IsAutomatonOf tree setting.machine)
@@ -35,7 +35,7 @@ module _ (setting : Setting) (law : IsNetwork setting.network) (tree : RegexTree
     (first : (target : ℕ) → searched.AreFirst (Conforms setting.network tree) source target 1 (walks_to found target))
     (passed : AllByRecursion (IsFollowed setting source) found.walks) (exact : (q : Pair) → IsPotential setting source q (potential_of found q))
     (last : found.last ≡ setting.machine.states - 1) (ids : List ℕ) (ids_are : ids ≡ node_ids setting.network.graph.nodes) (up : Ascends nat_cmp ids)
-    (targets : List ℕ) (has : AllByRecursion (HasWalk setting.network tree source) targets) where
+    (targets : List ℕ) where
   abbrev listed : List Potential
   listed = potentials_in found setting.machine.states ids
 
@@ -50,7 +50,7 @@ module _ (setting : Setting) (law : IsNetwork setting.network) (tree : RegexTree
     accepted : Accepts d setting
     accepted =
         let least = least_of setting law tree parts is source begins found exact in
-        let good = all_good setting tree source found first passed exact last targets has in
+        let good = all_good setting tree source found first passed exact last targets in
         record {
           listed = subst (AreListed setting) (sym potentials_are) (are_listed setting law tree parts is source begins listed known least);
           begins = record {
@@ -72,13 +72,14 @@ module _ (setting : Setting) (law : IsNetwork setting.network) (tree : RegexTree
 
     pub doc_from : IsDocFrom setting tree source targets d
     doc_from =
-        let good = all_good setting tree source found first passed exact last targets has in
+        let good = all_good setting tree source found first passed exact last targets in
         record {
           expression = expression;
           network = network;
           start = start;
           potentials = subst (AreThose potential_order (IsReachedAt setting source)) (sym potentials_are) known;
-          ends = ap (map (λ (w : WalkDoc). end_of w.walk)) walks_are ∙ good.ends;
+          ends = λ (has : AllByRecursion (HasWalk setting.network tree source) targets).
+              ap (map (λ (w : WalkDoc). end_of w.walk)) walks_are ∙ all_ends setting tree source found first passed exact last targets has;
           told = subst (AllByRecursion (IsTold setting tree source)) (sym walks_are) good.told;
           first = subst (AllByRecursion (λ (w : WalkDoc). IsFirst setting.network tree w.walk)) (sym walks_are) good.firsts;
           accepts = accepted;

@@ -1,5 +1,5 @@
 -- The walks that a search finds, as a document has them.
-use Rattle.std.proofs.Common.{◌≡◌, ⊎_elim, ◌⊎◌, inl, inr, ℕ, ◌+◌, ◌-◌, ◌<◌, ◌≤◌, List, [], ◌∷◌, ◌++◌, length, map, Option, Some, refl, sym, ap, ◌∙◌, subst, slice_get, arith}
+use Rattle.std.proofs.Common.{◌≡◌, ⊎_elim, ◌⊎◌, inl, inr, ℕ, ◌+◌, ◌-◌, ◌<◌, ◌≤◌, List, [], ◌∷◌, ◌++◌, length, map, Option, Some, refl, sym, ap, ◌∙◌, subst, slice_get, arith, None}
 use Rattle.std.specs.declared.cmp.Ordering.TheVariants.{Less}
 use Rattle.std.specs.List.{AllByRecursion, Contains}
 use Rattle.std.specs.Option.{option_map, option_to_list}
@@ -108,10 +108,6 @@ module _ (setting : Setting) (tree : RegexTree ARegex) (source : ℕ) (found : F
       ⊎_elim (λ m. absurd (among_none (record { walk = w.walk; cost = w.cost }) m)) (λ out. omega (arith, out.0)) (all.complete (record { walk = w.walk; cost = w.cost }) so)
   some_walk (x ∷ ws) target all has = omega arith
 
-  pub walks_there : (targets : List ℕ) → AllByRecursion (HasWalk setting.network tree source) targets → AllByRecursion (λ target. 0 < length (walks_to found target)) targets
-  walks_there [] h = tt
-  walks_there (t ∷ targets) h = (some_walk (walks_to found t) t (first t) h.0, walks_there targets h.1)
-
   -- the document of a walk to a target
   record IsDocTo (target : ℕ) : Type 0 where
     doc : WalkDoc
@@ -163,29 +159,42 @@ module _ (setting : Setting) (tree : RegexTree ARegex) (source : ℕ) (found : F
       no_more [] h = refl
       no_more (x ∷ xs) h = absurd (omega arith)
 
-  doc_to : (target : ℕ) (arrivals : List FoundWalk) → arrivals_to found target ≡ arrivals → 0 < length (walks_to found target) → IsDocTo target
-  doc_to target [] is some = let none : length (walks_to found target) ≡ 0 = ap (λ xs. length (map (costed found.source) xs)) is in absurd (omega arith)
-  doc_to target (a ∷ arrivals) is some = one_doc target a arrivals is
-
-  -- the documents of walks to some targets
-  pub record AreGood (targets : List ℕ) (walks : List WalkDoc) : Type 0 where
-    pub ends : map (λ w. end_of w.walk) walks ≡ targets
+  -- what documents of walks tell
+  pub record AreGood (walks : List WalkDoc) : Type 0 where
     pub told : AllByRecursion (IsTold setting tree source) walks
     pub firsts : AllByRecursion (λ w. IsFirst setting.network tree w.walk) walks
     pub least : AllByRecursion (λ w. IsLeastCost setting source (end_pair setting w) w.cost) walks
 
-  pub all_good : (targets : List ℕ) → AllByRecursion (HasWalk setting.network tree source) targets → AreGood targets (first_docs found targets)
-  all_good [] h = record { ends = refl; told = tt; firsts = tt; least = tt }
-  all_good (t ∷ targets) h =
+  one_good : (target : ℕ) (walks : List WalkDoc) → IsDocTo target → AreGood walks → AreGood (option_to_list (first_doc found target) ++ walks)
+  one_good target walks d rest =
+      let whole : AreGood (d.doc ∷ walks) = record { told = (d.good.told, rest.told); firsts = (d.good.first, rest.firsts); least = (d.good.least, rest.least) } in
+      subst (λ (o : Option WalkDoc). AreGood (option_to_list o ++ walks)) (sym d.is) whole
+
+  none_good : (target : ℕ) (walks : List WalkDoc) → arrivals_to found target ≡ [] → AreGood walks → AreGood (option_to_list (first_doc found target) ++ walks)
+  none_good target walks is rest =
+      let none : first_doc found target ≡ None = ap (λ xs. option_map (doc_of found) (slice_get xs 0)) is in
+      subst (λ (o : Option WalkDoc). AreGood (option_to_list o ++ walks)) (sym none) rest
+
+  good_by : (target : ℕ) (walks : List WalkDoc) (arrivals : List FoundWalk) → arrivals_to found target ≡ arrivals → AreGood walks → AreGood (option_to_list (first_doc found target) ++ walks)
+  good_by target walks [] is rest = none_good target walks is rest
+  good_by target walks (a ∷ arrivals) is rest = one_good target walks (one_doc target a arrivals is) rest
+
+  pub all_good : (targets : List ℕ) → AreGood (first_docs found targets)
+  all_good [] = record { told = tt; firsts = tt; least = tt }
+  all_good (t ∷ targets) = good_by t (first_docs found targets) (arrivals_to found t) refl (all_good targets)
+
+  doc_to : (target : ℕ) (arrivals : List FoundWalk) → arrivals_to found target ≡ arrivals → 0 < length (walks_to found target) → IsDocTo target
+  doc_to target [] is some = let none : length (walks_to found target) ≡ 0 = ap (λ xs. length (map (costed found.source) xs)) is in absurd (omega arith)
+  doc_to target (a ∷ arrivals) is some = one_doc target a arrivals is
+
+  -- where there is a walk to each target, one is told to each
+  pub all_ends : (targets : List ℕ) → AllByRecursion (HasWalk setting.network tree source) targets → map (λ w. end_of w.walk) (first_docs found targets) ≡ targets
+  all_ends [] h = refl
+  all_ends (t ∷ targets) h =
       let d = doc_to t (arrivals_to found t) refl (some_walk (walks_to found t) t (first t) h.0) in
-      let rest = all_good targets h.1 in
-      let whole : AreGood (t ∷ targets) (d.doc ∷ first_docs found targets) = record {
-        ends = λ j. d.ends j ∷ rest.ends j;
-        told = (d.good.told, rest.told);
-        firsts = (d.good.first, rest.firsts);
-        least = (d.good.least, rest.least);
-      } in
-      subst (λ (o : Option WalkDoc). AreGood (t ∷ targets) (option_to_list o ++ first_docs found targets)) (sym d.is) whole
+      let rest = all_ends targets h.1 in
+      let whole : map (λ (w : WalkDoc). end_of w.walk) (d.doc ∷ first_docs found targets) ≡ t ∷ targets = λ j. d.ends j ∷ rest j in
+      subst (λ (o : Option WalkDoc). map (λ (w : WalkDoc). end_of w.walk) (option_to_list o ++ first_docs found targets) ≡ t ∷ targets) (sym d.is) whole
 
 -- a walk, its cost and its run, told one by one
 pub first_is : (found : Finding) (target : ℕ) (walk : Walk) (cost : ℕ) (run : List RunMove) → option_map (λ w. w.walk) (slice_get (walks_to found target) 0) ≡ Some walk
@@ -202,3 +211,11 @@ first_is found target walk cost run w c r = by (arrivals_to found target) w c r
         let same_cost : a.cost ≡ cost = some_same a.cost cost c in
         let same_run : a.run ≡ run = some_same a.run run r in
         λ j. Some (record { cost = same_cost j; run = same_run j; walk = same_walk j })
+
+-- where none arrives, none is told
+pub none_first : (found : Finding) (target : ℕ) → length (walks_to found target) ≡ 0 → None ≡ first_doc found target
+none_first found target h = by (arrivals_to found target) h
+  where
+    by : (arrivals : List FoundWalk) → length (map (costed found.source) arrivals) ≡ 0 → None ≡ option_map (doc_of found) (slice_get arrivals 0)
+    by [] h = refl
+    by (a ∷ arrivals) h = absurd (omega (arith, h))

@@ -38,10 +38,6 @@ module _ (ends : List WalkEnds) (source : ℕ) (targets : List ℕ) (exact : Has
   pub those_targets : Ascends nat_cmp targets → AreThose nat_cmp (λ t. Contains ends (record { start = source; target = t })) targets
   those_targets up = record { ascend = up; exact = λ t. (λ m. of_target t m, λ m. to_target t m) }
 
-  pub targets_reached : (network : Network) (tree : RegexTree ARegex) → AllByRecursion (IsEndsOf network tree) ends → AllByRecursion (HasWalk network tree source) targets
-  targets_reached network tree all =
-      each_member (HasWalk network tree source) targets (λ t m. (of_member (IsEndsOf network tree) ends (record { start = source; target = t }) all (of_target t m)).walk)
-
 module _ (ends : List WalkEnds) (sources : List ℕ) (exact : HasExactly (map (λ e. e.start) ends) sources) where
   start_of : (s : ℕ) → Contains sources s → IsStart ends s
   start_of s m =
@@ -54,10 +50,10 @@ module _ (ends : List WalkEnds) (sources : List ℕ) (exact : HasExactly (map (�
     exact = λ s. (λ m. start_of s m, λ h. exact.complete s (to_map (λ (e : WalkEnds). e.start) ends (record { start = s; target = h.0 }) h.1));
   }
 
-  pub source_there : (network : Network) (tree : RegexTree ARegex) → AllByRecursion (IsEndsOf network tree) ends → (s : ℕ) → Contains sources s → IsThere network s
-  source_there network tree all s m =
+  pub source_there : (network : Network) → AllByRecursion (λ (e : WalkEnds). IsThere network e.start) ends → (s : ℕ) → Contains sources s → IsThere network s
+  source_there network all s m =
       let h = start_of s m in
-      (of_member (IsEndsOf network tree) ends (record { start = s; target = h.0 }) all h.1).there
+      of_member (λ (e : WalkEnds). IsThere network e.start) ends (record { start = s; target = h.0 }) all h.1
 
 pub no_docs : (setting : Setting) (tree : RegexTree ARegex) (ends : List WalkEnds) (old : List SearchDoc) → AreDocsFrom setting tree ends [] old old
 no_docs setting tree ends old = record { added = []; whole = sym (append-nil old); starts = refl; each = tt }

@@ -12,12 +12,12 @@ use Rattle.gc_alg.specs.declared.block.Block.{Block, out-Block}
 use Rattle.gc_alg.specs.declared.block.Part.{Part, out-Part}
 use Rattle.gc_alg.proofs.Items.{atoms_are, parts_are}
 use Rattle.gc_cert.specs.declared.document.SearchDoc.{SearchDoc}
-use Rattle.gc_cert_searches.specs.Found.{AreAdded}
+use Rattle.gc_cert_searches.specs.Found.{AreAdded, AreFirstBy}
 use Rattle.gc_cert_searches.specs.Patterns.{Pattern, pattern_by, patterns_of}
 use Rattle.gc_cert_searches.specs.Searches.{Matched, AreSearchesInTurn, IsAccepted}
 
 pub none_added : (m : Matched) (old : List SearchDoc) → AreAdded m [] old old
-none_added m old = record { added = []; whole = sym (append-nil old); told = refl; accepted = tt }
+none_added m old = record { added = []; whole = sym (append-nil old); told = λ h. refl; accepted = tt }
 
 in_turn : (m : Matched) (fs gs : List Pattern) (xs ys : List SearchDoc) → AreSearchesInTurn m fs xs → AreSearchesInTurn m gs ys → AreSearchesInTurn m (fs ++ gs) (xs ++ ys)
 in_turn m [] gs xs ys h k = subst (λ zs. AreSearchesInTurn m gs (zs ++ ys)) (sym h) k
@@ -29,11 +29,19 @@ in_turn m (f ∷ fs) gs xs ys h k = record {
   others = in_turn m fs gs h.later ys h.others k;
 }
 
+front_of : (P : Pattern → Type 0) (fs gs : List Pattern) → AllByRecursion P (fs ++ gs) → AllByRecursion P fs
+front_of P [] gs h = tt
+front_of P (f ∷ fs) gs h = (h.0, front_of P fs gs h.1)
+
+back_of : (P : Pattern → Type 0) (fs gs : List Pattern) → AllByRecursion P (fs ++ gs) → AllByRecursion P gs
+back_of P [] gs h = h
+back_of P (f ∷ fs) gs h = back_of P fs gs h.1
+
 pub then_added : (m : Matched) (fs gs : List Pattern) (old middle now : List SearchDoc) → AreAdded m fs old middle → AreAdded m gs middle now → AreAdded m (fs ++ gs) old now
 then_added m fs gs old middle now h k = record {
   added = h.added ++ k.added;
   whole = k.whole ∙ (ap (λ zs. zs ++ k.added) h.whole ∙ append_assoc old h.added k.added);
-  told = in_turn m fs gs h.added k.added h.told k.told;
+  told = λ all. in_turn m fs gs h.added k.added (h.told (front_of (AreFirstBy m) fs gs all)) (k.told (back_of (AreFirstBy m) fs gs all));
   accepted = AllByRecursion-append IsAccepted h.added k.added h.accepted k.accepted;
 }
 

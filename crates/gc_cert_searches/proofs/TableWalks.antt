@@ -26,10 +26,9 @@ use Rattle.gc_alg.specs.declared.atom.Atom.{Atom}
 use Rattle.gc_alg.specs.declared.atom.AtomWhat.{AtomWhat}
 use Rattle.gc_alg.specs.declared.atom.AtomWhat.TheVariants as atom
 use Rattle.gc_walks.specs.Databases.{database}
-use Rattle.gc_walks.specs.Expressions.{is_searchable}
-use Rattle.gc_cert_searches.specs.Found.{IsFirst, IsFirstBy, IsReady}
+use Rattle.gc_cert_searches.specs.Found.{AreFirstBy, IsFirst, IsFirstBy}
 use Rattle.gc_cert_searches.specs.Found as found
-use Rattle.gc_cert_searches.specs.Patterns.{Pattern, AreOnly, AreSearchable, IsOnly, pattern_by, pattern_of, patterns_of}
+use Rattle.gc_cert_searches.specs.Patterns.{Pattern, AreOnly, IsOnly, pattern_by, pattern_of, patterns_of}
 use Rattle.gc_cert_searches.specs.Searches.{Matched, matched}
 use Rattle.gc_cert_searches.proofs.BoundRows.{bound_is_met}
 
@@ -117,17 +116,14 @@ module _ (graphs : List PropertyGraph) (segments : List Segments) (row : List Bi
       by (atom.Reach x y regex views) is meets at = no_pattern f is
       by (atom.All x p y regex views) is meets at = no_pattern f is
 
--- each pattern of a block is ready
-pub all_ready : (graphs : List PropertyGraph) (segments : List Segments) (block : Tree ABlock) (table : Relation) → AreSearchable block → AreOnly block
+-- where each pattern of a block is the only one with its variable, the walks that the table binds to it are the first
+pub all_first : (graphs : List PropertyGraph) (segments : List Segments) (block : Tree ABlock) (table : Relation) → AreOnly block
     → IsTableOfBlock (record { database = database graphs segments; block = block; given = [] }) table
-    → AllByRecursion (IsReady (matched graphs segments table)) (patterns_of block)
-all_ready graphs segments block table searchable only is =
-    each_member (IsReady (matched graphs segments table)) (patterns_of block) (λ f among. record {
-      searchable = of_member (λ (g : Pattern). is_searchable g.expression ≡ true) (patterns_of block) f searchable among;
-      first = λ w bound.
-          let met = bound_is_met (database graphs segments) block bound.row (is.sound bound.row bound.among) f.path (datum.Found w) bound.bound in
-          let a = met.has.atom in
-          let there = to_flat_map atoms_of (items (parts_of block)) met.part a met.among met.has.among in
-          let one = of_member (IsOnly (block_atoms block)) (patterns_of block) f only among a there met.has.listed in
-          of_atom graphs segments bound.row table.rows a f w one (of_member (Satisfies (database graphs segments) bound.row) (atoms_of met.part) a met.meets met.has.among) bound.bound;
-    })
+    → AllByRecursion (AreFirstBy (matched graphs segments table)) (patterns_of block)
+all_first graphs segments block table only is =
+    each_member (AreFirstBy (matched graphs segments table)) (patterns_of block) (λ f among w bound.
+    let met = bound_is_met (database graphs segments) block bound.row (is.sound bound.row bound.among) f.path (datum.Found w) bound.bound in
+    let a = met.has.atom in
+    let there = to_flat_map atoms_of (items (parts_of block)) met.part a met.among met.has.among in
+    let one = of_member (IsOnly (block_atoms block)) (patterns_of block) f only among a there met.has.listed in
+    of_atom graphs segments bound.row table.rows a f w one (of_member (Satisfies (database graphs segments) bound.row) (atoms_of met.part) a met.meets met.has.among) bound.bound)

@@ -1,5 +1,5 @@
 -- What is known of the walks that the table binds to the variable of a pattern, and of the documents so far.
-use Rattle.std.specs.Prelude.{◌≡◌, ℕ, true, List, [], ◌∷◌, ◌++◌, map, Some, slice_get}
+use Rattle.std.specs.Prelude.{◌≡◌, ℕ, List, [], ◌∷◌, ◌++◌, map, Some, slice_get}
 use Rattle.std.specs.List.{AllByRecursion, Contains}
 use Rattle.std.specs.Ordering.{nat_cmp}
 use Rattle.gc_base.specs.Walks.{end_of}
@@ -15,7 +15,6 @@ use Rattle.gc_prod.specs.Segments.{AreSegments}
 use Rattle.gc_alg.specs.FirstWalks.{AreFirst, CostedWalk, IsConforming}
 use Rattle.gc_alg.specs.Instances.{search}
 use Rattle.gc_walks.specs.Databases.{used_segments}
-use Rattle.gc_walks.specs.Expressions.{is_searchable}
 use Rattle.gc_cert.specs.Acceptance.{Accepts, network_of}
 use Rattle.gc_cert.specs.Potentials.{potential_order}
 use Rattle.gc_cert.specs.declared.document.SearchDoc.{SearchDoc}
@@ -44,20 +43,21 @@ pub record IsFirstBy (m : Matched) (f : Pattern) (w : Walk) : Type 0 where
 abbrev pub AreFirstBy : Matched → Pattern → Type 0
 AreFirstBy m f = (w : Walk) → IsBound m.rows f.path w → IsFirstBy m f w
 
--- what a search from a source tells of the walks to some nodes, each of which is the first by an expression
+-- some walk from a node to a node conforms, and none at less of those with its edges
+abbrev pub HasWalk : Network → RegexTree ARegex → (source target : ℕ) → Type 0
+HasWalk network tree source target = (w : CostedWalk) × IsConforming (search network tree source target) w
+
+-- what a search from a source tells of the walks to some nodes, each of which is the first by an expression; where there is one to
+-- each, it tells one to each
 pub record IsDocFrom (setting : Setting) (tree : RegexTree ARegex) (source : ℕ) (targets : List ℕ) (d : SearchDoc) : Type 0 where
   pub expression : regex_tree d.expression ≡ tree
   pub network : setting.network ≡ network_of d
   pub start : d.start ≡ source
   pub potentials : AreThose potential_order (IsReachedAt setting source) d.potentials
-  pub ends : map (λ w. end_of w.walk) d.walks ≡ targets
+  pub ends : AllByRecursion (HasWalk setting.network tree source) targets → map (λ w. end_of w.walk) d.walks ≡ targets
   pub told : AllByRecursion (IsTold setting tree source) d.walks
   pub first : AllByRecursion (λ w. IsFirst setting.network tree w.walk) d.walks
   pub accepts : Accepts d setting
-
--- some walk from a node to a node conforms, and none at less of those with its edges
-abbrev pub HasWalk : Network → RegexTree ARegex → (source target : ℕ) → Type 0
-HasWalk network tree source target = (w : CostedWalk) × IsConforming (search network tree source target) w
 
 -- an expression is asked for in a product: this is of its automaton, and of a graph with segments of it
 pub record IsAsked (asked : Asked) : Type 0 where
@@ -94,14 +94,9 @@ pub record AreDocsOf (setting : Setting) (tree : RegexTree ARegex) (ends : List 
   pub those : AreThose nat_cmp (IsStart ends) sources
   pub docs : AreDocsFrom setting tree ends sources old now
 
--- walks can be looked for by a pattern, and those that the rows bind to its variable are the first
-pub record IsReady (m : Matched) (f : Pattern) : Type 0 where
-  pub searchable : is_searchable f.expression ≡ true
-  pub first : AreFirstBy m f
-
--- the documents of some patterns come behind others
+-- the documents of some patterns come behind others, where the walks that the rows bind to their variables are the first
 pub record AreAdded (m : Matched) (patterns : List Pattern) (old now : List SearchDoc) : Type 0 where
   pub added : List SearchDoc
   pub whole : now ≡ old ++ added
-  pub told : AreSearchesInTurn m patterns added
+  pub told : AllByRecursion (AreFirstBy m) patterns → AreSearchesInTurn m patterns added
   pub accepted : AllByRecursion IsAccepted added

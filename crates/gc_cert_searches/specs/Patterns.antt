@@ -35,14 +35,17 @@ pattern_by a = pattern_of a.graph a.what
 abbrev pub patterns_of : Tree ABlock → List Pattern
 patterns_of block = flat_map pattern_by (block_atoms block)
 
--- each of them is by an expression that has an automaton
+-- a pattern is by an expression that has an automaton; and each of those of a block is
+abbrev pub IsSearchable : Pattern → Type 0
+IsSearchable f = is_searchable f.expression ≡ true
+
 abbrev pub AreSearchable : Tree ABlock → Type 0
-AreSearchable block = AllByRecursion (λ f. is_searchable f.expression ≡ true) (patterns_of block)
+AreSearchable block = AllByRecursion IsSearchable (patterns_of block)
 
 -- a pattern is the only one of some atoms that has its variable
 abbrev pub IsOnly : List Atom → Pattern → Type 0
 IsOnly atoms f = (a : Atom) → Contains atoms a → lists (variables_of a.what) f.path ≡ true → pattern_by a ≡ f ∷ []
 
--- so is each in its block
+-- so is each in its block; the sort rules demand it, since a found path has one place
 abbrev pub AreOnly : Tree ABlock → Type 0
 AreOnly block = AllByRecursion (IsOnly (block_atoms block)) (patterns_of block)

@@ -1,9 +1,10 @@
 -- What is read of rows, and of what a search found.
 use Rattle.std.specs.Prelude.{ℕ, List, [], ◌∷◌, Option, Some, None, slice_get}
-use Rattle.std.specs.List.{flat_map, range_with_len}
+use Rattle.std.specs.List.{filter, flat_map, range_with_len}
 use Rattle.std.specs.Option.{option_map, option_to_list}
 use Rattle.gc_base.specs.Walks.{end_of}
 use Rattle.gc_base.specs.declared.place.Sym.{Sym}
+use Rattle.gc_spec.specs.PropertyGraph.{PropertyGraph, is_among, node_ids}
 use Rattle.gc_rows.specs.Rows.{datum_at}
 use Rattle.gc_rows.specs.declared.datum.Datum.{Datum}
 use Rattle.gc_rows.specs.declared.datum.Datum.TheVariants as datum
@@ -24,6 +25,10 @@ ends_if (Some d) = None
 -- the ends of the walks that rows bind to a variable
 abbrev pub ends_in : Sym → List (List Binding) → List WalkEnds
 ends_in p rows = flat_map (λ row. option_to_list (ends_if (datum_at row p))) rows
+
+-- those of some ends that start at a node of a graph
+abbrev pub ends_on : PropertyGraph → List WalkEnds → List WalkEnds
+ends_on g ends = filter (λ e. is_among (node_ids g.nodes) e.start) ends
 
 -- the potential of a node and a state, if a run reaches them
 abbrev pub potential_if : (node state : ℕ) → Option ℕ → List Potential

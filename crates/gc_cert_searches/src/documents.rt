@@ -1,7 +1,7 @@
 ghost use Rattle.std.specs.Prelude.{◌≡◌, IfOk, OnOk};
 ghost use Rattle.std.specs.List.{AllByRecursion};
 ghost use Rattle.gc_automata.specs.Moves.{IsThere};
-ghost use Rattle.gc_cert_searches.specs.Found.{AreDocsOf, HasWalk, IsAsked, IsDocFrom, IsEndsOf};
+ghost use Rattle.gc_cert_searches.specs.Found.{AreDocsOf, IsAsked, IsDocFrom};
 
 use crate::ends::{WalkEnds, sources_of, targets_of};
 use crate::potentials::potentials_in;
@@ -27,7 +27,7 @@ pub(crate) struct Asked<'a> {
 }
 
 /// Adds the documents of the searches from the starts of some walks, one for each start, ascending. Each
-/// tells the first walks to where those from its start end.
+/// tells the first walks to where those from its start end, as far as there are such walks.
 pub(crate) fn add_searches<L: Ledger>(
     docs: &mut Vec<SearchDoc>,
     asked: &Asked<'_>,
@@ -35,7 +35,7 @@ pub(crate) fn add_searches<L: Ledger>(
     steps: &mut Steps<L>,
 ) -> Result<(), Memory>
     requires asked { IsAsked asked.now }
-    requires ends { AllByRecursion (IsEndsOf asked.now.product.now.network asked.now.expression.now) ends.items }
+    requires there { AllByRecursion (λ e. IsThere asked.now.product.now.network e.start) ends.items }
     ensures { OnOk result (AreDocsOf asked.now.product.now asked.now.expression.now ends.items docs.old.items docs.new.items) }
 {
     let sources = sources_of(asked.alloc, &ends)?;
@@ -47,7 +47,7 @@ pub(crate) fn add_searches<L: Ledger>(
     Ok(())
 }
 
-// The document of the search from a node for the first walks to some nodes.
+// The document of the search from a node for the first walks to some nodes, as far as there are such walks.
 fn search_doc<L: Ledger>(
     asked: &Asked<'_>,
     source: Id,
@@ -56,7 +56,6 @@ fn search_doc<L: Ledger>(
 ) -> Result<SearchDoc, Memory>
     requires asked { IsAsked asked.now }
     requires source { IsThere asked.now.product.now.network source }
-    requires reached { AllByRecursion (HasWalk asked.now.product.now.network asked.now.expression.now source) targets.now }
     ensures { IfOk result (IsDocFrom asked.now.product.now asked.now.expression.now source targets.now) }
 {
     let product = asked.product;

@@ -1,14 +1,17 @@
 ghost use Rattle.std.specs.Prelude.{◌≡◌, map, IfOk};
 ghost use Rattle.std.specs.Ordering.{nat_cmp};
 ghost use Rattle.gc_base.specs.Ascending.{Ascends};
+ghost use Rattle.gc_spec.specs.PropertyGraph.{is_among, node_ids};
 ghost use Rattle.gc_rows.specs.Rows.{datum_at};
 ghost use Rattle.gc_rows.specs.Tables.{HasExactly};
-ghost use Rattle.gc_cert_searches.specs.Readings.{ends_if, ends_in};
+ghost use Rattle.gc_cert_searches.specs.Readings.{ends_if, ends_in, ends_on};
 
-use gc_base::{Id, Memory, Sym};
+use gc_base::{Id, Memory, Steps, Sym};
+use gc_ppg::Graph;
 use gc_prod::Keyed;
 use gc_rows::{Datum, Row};
 use std::alloc::Global;
+use std::sync::ledger::Ledger;
 
 /// The nodes at which a walk starts and ends.
 #[derive(Clone, Copy)]
@@ -48,6 +51,34 @@ fn ends_of(row: &Row, path: Sym) -> Option<WalkEnds>
             target: walk.end(),
         }),
         _ => None,
+    }
+}
+
+/// Those of some ends that start at a node of a graph.
+pub(crate) fn ends_on<L: Ledger>(
+    alloc: Global,
+    ends: &[WalkEnds],
+    graph: &Graph,
+    steps: &mut Steps<L>,
+) -> Result<Vec<WalkEnds>, Memory>
+    ensures { IfOk result (λ kept. kept.items ≡ ends_on graph.now ends.now) }
+{
+    let mut kept = Vec::new(alloc);
+    for one in ends {
+        if is_node(graph, one.start, steps) {
+            kept.push(*one)?;
+        }
+    }
+    Ok(kept)
+}
+
+// Whether a graph has a node of an identity.
+fn is_node<L: Ledger>(graph: &Graph, node: Id, steps: &mut Steps<L>) -> bool
+    ensures { result ≡ is_among (node_ids graph.now.nodes) node }
+{
+    match graph.find_node(node, steps) {
+        None => false,
+        Some(_) => true,
     }
 }
 

@@ -7,7 +7,7 @@ use Rattle.gc_prod.specs.Keys.{at_key}
 use Rattle.gc_cert.specs.declared.document.SearchDoc.{SearchDoc}
 use Rattle.gc_cert_searches.specs.Found.{AreDocsFrom}
 use Rattle.gc_cert_searches.specs.declared.ends.WalkEnds.{WalkEnds}
-use Rattle.gc_cert_searches.proofs.Grouping.{no_docs, one_more, retold, source_there, starts_at, targets_reached, those_sources, those_targets}
+use Rattle.gc_cert_searches.proofs.Grouping.{no_docs, one_more, retold, source_there, starts_at, those_sources, those_targets}
 use Rattle.gc_cert_searches.proofs.documents.add_searches.Goals as goal
 
 pub loop-source-init : goal.loop-source-init
@@ -18,18 +18,8 @@ search_doc-requires-clause-source g c =
     let items : List ℕ = c.deref-source-items.result.now in
     let exact : HasExactly (map (λ (e : WalkEnds). e.start) c.args.ends.items) items =
     retold (λ e. e.start) c.deref.result.now c.args.ends.items c.in_ok-sources.sources.items items c.deref.ensures.value c.deref-source-items.ensures.value c.in_ok-sources.ensures.exact in
-    source_there c.args.ends.items items exact c.args.asked.now.product.now.network c.args.asked.now.expression.now c.requires.ends c.source-item.result
+    source_there c.args.ends.items items exact c.args.asked.now.product.now.network c.requires.there c.source-item.result
     (c.loop-source.source-index, c.loop-source-test.true, sym c.source-item.is)
-
-pub search_doc-requires-clause-reached : goal.search_doc-requires-clause-reached
-search_doc-requires-clause-reached g c =
-    let source : ℕ = c.source-item.result in
-    let ends : List WalkEnds = c.args.ends.items in
-    let own : c.at.result.now ≡ starts_at source ends =
-    c.at.ensures ∙ (ap (λ k. at_key (λ (e : WalkEnds). e.start) k c.in_ok-by_start.by_start) c.get.ensures.number ∙ c.in_ok-by_start.ensures source) in
-    let exact : HasExactly (map (λ (e : WalkEnds). e.target) (starts_at source ends)) c.deref-in-loop-source.result.now =
-    retold (λ e. e.target) c.at.result.now (starts_at source ends) c.in_ok-targets.targets.items c.deref-in-loop-source.result.now own c.deref-in-loop-source.ensures.value c.in_ok-targets.ensures.exact in
-    targets_reached ends source c.deref-in-loop-source.result.now exact c.args.asked.now.product.now.network c.args.asked.now.expression.now c.requires.ends
 
 pub loop-source-preserved : goal.loop-source-preserved
 loop-source-preserved g c =

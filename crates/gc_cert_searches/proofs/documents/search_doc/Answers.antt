@@ -4,15 +4,7 @@ use Rattle.gc_base.specs.Ascending.{Ascends}
 use Rattle.gc_regx.specs.Views.{regex_tree}
 use Rattle.gc_cert_searches.specs.Readings.{potentials_in}
 use Rattle.gc_cert_searches.proofs.DocumentLaw.{doc_from}
-use Rattle.gc_cert_searches.proofs.FirstDocs.{walks_there}
 use Rattle.gc_cert_searches.proofs.documents.search_doc.Goals as goal
-
-pub first_walks-requires : goal.first_walks-requires
-first_walks-requires g c =
-    let tree = c.args.asked.now.expression.now in
-    let found = c.in_ok-found.ensures in
-    walks_there c.args.asked.now.product.now tree c.args.source c.in_ok-found.found (found.conform tree c.requires.asked.parts c.requires.asked.automaton) found.passed found.potentials
-    found.last c.args.targets.now c.requires.reached
 
 pub returns : goal.returns
 returns g c =
@@ -25,5 +17,5 @@ returns g c =
     c.in_ok-potentials.ensures ∙ ap (λ n. potentials_in c.in_ok-found.found n ids) c.states.ensures in
     let copied : regex_tree c.in_ok-copy.field-0 ≡ regex_tree c.expression.inside.0 = c.in_ok-copy.ensures in
     doc_from setting c.nodes.ensures.network tree asked.parts asked.automaton c.args.source c.requires.source c.in_ok-found.found (found.conform tree asked.parts asked.automaton) found.passed
-    found.potentials found.last ids c.nodes.ensures.nodes (subst (Ascends nat_cmp) (sym c.nodes.ensures.nodes) c.nodes.ensures.ascend) c.args.targets.now c.requires.reached _ (cc)
+    found.potentials found.last ids c.nodes.ensures.nodes (subst (Ascends nat_cmp) (sym c.nodes.ensures.nodes) c.nodes.ensures.ascend) c.args.targets.now _ (cc)
     (asked.network ∙ (λ j. record { graph = sym c.in_ok-copy-2.ensures j; segments = sym c.in_ok-copy-3.ensures j })) refl (cc) c.in_ok-walks.ensures
