@@ -36,7 +36,7 @@ use Rattle.gc_cert_searches.specs.BoundWalks.{IsBound, IsBoundFrom, IsSource}
 use Rattle.gc_cert_searches.specs.Found.{AreAdded, AreDocsOf, AreFirstBy, IsDocOf, IsEndsOf, IsFirst, IsStart, network_on, HasWalk}
 use Rattle.gc_cert_searches.specs.Patterns.{Pattern}
 use Rattle.gc_cert_searches.specs.Readings.{ends_if, ends_in, ends_on}
-use Rattle.gc_cert_searches.specs.Searches.{Matched, AreSearchesFor, AreSearchesInTurn, AreThose, IsAccepted, IsSearchOf}
+use Rattle.gc_cert_searches.specs.Searches.{Matched, AreSearchesFor, AreSearchesInTurn, AreThose, IsAccepted, IsSearchOf, AreLow}
 use Rattle.gc_cert_searches.specs.SegmentOrder.{segment_order}
 use Rattle.gc_cert_searches.proofs.OneFirst.{one_first}
 use Rattle.gc_cert_searches.proofs.SameSegments.{first_too}
@@ -237,11 +237,12 @@ module _ (m : Matched) (f : Pattern) (g : PropertyGraph) (there : slice_get m.gr
     accepted =
         each_member IsAccepted docs.docs.added
         (λ d among. search_accepted (ends_on g ends) d (of_member (IsDocOf setting f.expression (ends_on g ends)) docs.docs.added d docs.docs.each among));
+    low = each_member AreLow docs.docs.added (λ d among. (of_member (IsDocOf setting f.expression (ends_on g ends)) docs.docs.added d docs.docs.each among).doc.low);
   }
 
 -- without its graph a pattern has no walks
 pub none_told : (m : Matched) (f : Pattern) → slice_get m.graphs f.graph ≡ None → (old : List SearchDoc) → AreAdded m (f ∷ []) old old
-none_told m f none old = record { added = []; whole = sym (append-nil old); told = λ all. record { first = []; later = []; whole = refl; ours = ours all.0; others = refl }; accepted = tt }
+none_told m f none old = record { added = []; whole = sym (append-nil old); told = λ all. record { first = []; later = []; whole = refl; ours = ours all.0; others = refl }; accepted = tt; low = tt }
   where
     missing : (g : PropertyGraph) → None ≡ Some g → ⊥
     missing g h = cc

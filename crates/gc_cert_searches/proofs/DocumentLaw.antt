@@ -1,5 +1,5 @@
 -- What a search tells, as a document.
-use Rattle.std.proofs.Common.{◌≡◌, ℕ, ◌-◌, true, List, map, Some, sym, ap, ◌∙◌, subst}
+use Rattle.std.proofs.Common.{◌≡◌, ℕ, ◌-◌, true, List, map, Some, sym, ap, ◌∙◌, subst, ◌<◌, ◌^◌}
 use Rattle.std.specs.List.{AllByRecursion, list_all}
 use Rattle.std.specs.Ordering.{nat_cmp}
 use Rattle.gc_base.proofs.Search.{AllByRecursion-weaker}
@@ -28,13 +28,14 @@ use Rattle.gc_cert_searches.specs.Readings.{first_docs, potentials_in}
 use Rattle.gc_cert_searches.specs.Searches.{AreThose, IsReachedAt, IsTold}
 use Rattle.gc_cert_searches.proofs.Accepting.{are_bounded, are_covered, are_listed, begins_free, walks_least}
 use Rattle.gc_cert_searches.proofs.FirstDocs.{all_ends, all_good}
+use Rattle.gc_cert_searches.proofs.Lowness.{low_docs, low_listed}
 use Rattle.gc_cert_searches.proofs.Listing.{least_of, those}
 
 module _ (setting : Setting) (law : IsNetwork setting.network) (tree : RegexTree ARegex) (parts : HasParts tree) (is : IsAutomatonOf tree setting.machine)
     (source : ℕ) (begins : IsThere setting.network source) (found : Finding)
     (first : (target : ℕ) → searched.AreFirst (Conforms setting.network tree) source target 1 (walks_to found target))
     (passed : AllByRecursion (IsFollowed setting source) found.walks) (exact : (q : Pair) → IsPotential setting source q (potential_of found q))
-    (last : found.last ≡ setting.machine.states - 1) (ids : List ℕ) (ids_are : ids ≡ node_ids setting.network.graph.nodes) (up : Ascends nat_cmp ids)
+    (last : found.last ≡ setting.machine.states - 1) (small : AllByRecursion (λ a. a.cost < 2 ^ 127) found.walks) (ids : List ℕ) (ids_are : ids ≡ node_ids setting.network.graph.nodes) (up : Ascends nat_cmp ids)
     (targets : List ℕ) where
   abbrev listed : List Potential
   listed = potentials_in found setting.machine.states ids
@@ -83,4 +84,8 @@ module _ (setting : Setting) (law : IsNetwork setting.network) (tree : RegexTree
           told = subst (AllByRecursion (IsTold setting tree source)) (sym walks_are) good.told;
           first = subst (AllByRecursion (λ (w : WalkDoc). IsFirst setting.network tree w.walk)) (sym walks_are) good.firsts;
           accepts = accepted;
+          low = record {
+            potentials = subst (AllByRecursion (λ (q : Potential). q.cost < 2 ^ 127)) (sym potentials_are) (low_listed found small setting.machine.states ids);
+            walks = subst (AllByRecursion (λ (w : WalkDoc). w.cost < 2 ^ 127)) (sym walks_are) (low_docs found small targets);
+          };
         }

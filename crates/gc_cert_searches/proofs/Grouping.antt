@@ -9,12 +9,12 @@ use Rattle.gc_base.specs.Ascending.{Ascends}
 use Rattle.gc_automata.specs.Moves.{IsThere, Network}
 use Rattle.gc_regx.specs.Trees.{RegexTree, ARegex}
 use Rattle.gc_rows.specs.Tables.{HasExactly}
-use Rattle.gc_rows.proofs.Members.{each_member, from_filter, from_map, of_member, to_filter, to_map}
+use Rattle.gc_rows.proofs.Members.{from_filter, from_map, of_member, to_filter, to_map}
 use Rattle.gc_prod.specs.Keys.{at_key}
 use Rattle.gc_prod.specs.Products.{Setting}
 use Rattle.gc_cert.specs.declared.document.SearchDoc.{SearchDoc}
 use Rattle.gc_cert_searches.specs.declared.ends.WalkEnds.{WalkEnds}
-use Rattle.gc_cert_searches.specs.Found.{AreDocsFrom, HasWalk, IsDocFrom, IsDocOf, IsEndsOf, IsStart}
+use Rattle.gc_cert_searches.specs.Found.{AreDocsFrom, IsDocFrom, IsDocOf, IsStart}
 use Rattle.gc_cert_searches.specs.Searches.{AreThose}
 
 ends_same : (e : WalkEnds) (s t : ℕ) → e.start ≡ s → e.target ≡ t → e ≡ record { start = s; target = t }

@@ -14,10 +14,10 @@ use Rattle.gc_alg.proofs.Items.{atoms_are, parts_are}
 use Rattle.gc_cert.specs.declared.document.SearchDoc.{SearchDoc}
 use Rattle.gc_cert_searches.specs.Found.{AreAdded, AreFirstBy}
 use Rattle.gc_cert_searches.specs.Patterns.{Pattern, pattern_by, patterns_of}
-use Rattle.gc_cert_searches.specs.Searches.{Matched, AreSearchesInTurn, IsAccepted}
+use Rattle.gc_cert_searches.specs.Searches.{Matched, AreSearchesInTurn, IsAccepted, AreLow}
 
 pub none_added : (m : Matched) (old : List SearchDoc) → AreAdded m [] old old
-none_added m old = record { added = []; whole = sym (append-nil old); told = λ h. refl; accepted = tt }
+none_added m old = record { added = []; whole = sym (append-nil old); told = λ h. refl; accepted = tt; low = tt }
 
 in_turn : (m : Matched) (fs gs : List Pattern) (xs ys : List SearchDoc) → AreSearchesInTurn m fs xs → AreSearchesInTurn m gs ys → AreSearchesInTurn m (fs ++ gs) (xs ++ ys)
 in_turn m [] gs xs ys h k = subst (λ zs. AreSearchesInTurn m gs (zs ++ ys)) (sym h) k
@@ -43,6 +43,7 @@ then_added m fs gs old middle now h k = record {
   whole = k.whole ∙ (ap (λ zs. zs ++ k.added) h.whole ∙ append_assoc old h.added k.added);
   told = λ all. in_turn m fs gs h.added k.added (h.told (front_of (AreFirstBy m) fs gs all)) (k.told (back_of (AreFirstBy m) fs gs all));
   accepted = AllByRecursion-append IsAccepted h.added k.added h.accepted k.accepted;
+  low = AllByRecursion-append AreLow h.added k.added h.low k.low;
 }
 
 -- the patterns of a part

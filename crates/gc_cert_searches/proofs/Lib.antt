@@ -6,6 +6,7 @@ pub mod FirstDocs
 pub mod Grouping
 pub mod InTurn
 pub mod Listing
+pub mod Lowness
 pub mod OneFirst
 pub mod Order
 pub mod Reaching

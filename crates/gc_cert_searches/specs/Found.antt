@@ -22,7 +22,7 @@ use Rattle.gc_cert_searches.specs.BoundWalks.{IsBound}
 use Rattle.gc_cert_searches.specs.Patterns.{Pattern}
 use Rattle.gc_cert_searches.specs.declared.documents.Asked.{Asked}
 use Rattle.gc_cert_searches.specs.declared.ends.WalkEnds.{WalkEnds}
-use Rattle.gc_cert_searches.specs.Searches.{Matched, AreSearchesInTurn, AreThose, IsAccepted, IsReachedAt, IsTold}
+use Rattle.gc_cert_searches.specs.Searches.{Matched, AreLow, AreSearchesInTurn, AreThose, IsAccepted, IsReachedAt, IsTold}
 
 -- a walk is the first of those between its ends that conform, at some cost
 pub record IsFirst (network : Network) (tree : RegexTree ARegex) (w : Walk) : Type 0 where
@@ -58,6 +58,7 @@ pub record IsDocFrom (setting : Setting) (tree : RegexTree ARegex) (source : ℕ
   pub told : AllByRecursion (IsTold setting tree source) d.walks
   pub first : AllByRecursion (λ w. IsFirst setting.network tree w.walk) d.walks
   pub accepts : Accepts d setting
+  pub low : AreLow d
 
 -- an expression is asked for in a product: this is of its automaton, and of a graph with segments of it
 pub record IsAsked (asked : Asked) : Type 0 where
@@ -100,3 +101,4 @@ pub record AreAdded (m : Matched) (patterns : List Pattern) (old now : List Sear
   pub whole : now ≡ old ++ added
   pub told : AllByRecursion (AreFirstBy m) patterns → AreSearchesInTurn m patterns added
   pub accepted : AllByRecursion IsAccepted added
+  pub low : AllByRecursion AreLow added

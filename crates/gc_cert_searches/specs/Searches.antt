@@ -1,5 +1,5 @@
 -- The documents of the searches that the MATCH of a CONSTRUCT asks for.
-use Rattle.std.specs.Prelude.{◌≡◌, ◌↔◌, ℕ, List, [], ◌∷◌, ◌++◌, map, Some, slice_get}
+use Rattle.std.specs.Prelude.{◌≡◌, ◌↔◌, ◌<◌, ◌^◌, ℕ, List, [], ◌∷◌, ◌++◌, map, Some, slice_get}
 use Rattle.std.specs.declared.cmp.Ordering.{Ordering}
 use Rattle.std.specs.List.{AllByRecursion, Contains}
 use Rattle.std.specs.Ordering.{nat_cmp, on}
@@ -87,6 +87,11 @@ AreSearchesInTurn m (f ∷ patterns) docs = IsSplit (AreSearchesFor m f) (AreSea
 -- the documents of a block, by the patterns of all its parts in the order of the text. EXISTS queries have none
 abbrev pub AreSearchesOf : Matched → Tree ABlock → List SearchDoc → Type 0
 AreSearchesOf m block docs = AreSearchesInTurn m (patterns_of block) docs
+
+-- the costs of a document are below 2^127
+pub record AreLow (d : SearchDoc) : Type 0 where
+  pub potentials : AllByRecursion (λ q. q.cost < 2 ^ 127) d.potentials
+  pub walks : AllByRecursion (λ w. w.cost < 2 ^ 127) d.walks
 
 -- a document is accepted, given the product of its graph and segments and of the automaton of its expression
 pub record IsAccepted (d : SearchDoc) : Type 0 where

@@ -13,7 +13,7 @@ use Rattle.gc_walks.specs.Databases.{used_segments}
 use Rattle.gc_cert.specs.declared.document.SearchDoc.{SearchDoc}
 use Rattle.gc_cert_searches.specs.declared.ends.WalkEnds.{WalkEnds}
 use Rattle.gc_cert_searches.specs.Asking.{matched_at, pattern_at}
-use Rattle.gc_cert_searches.specs.Found.{AreDocsOf, IsEndsOf, network_on}
+use Rattle.gc_cert_searches.specs.Found.{AreDocsOf, network_on}
 use Rattle.gc_cert_searches.specs.Readings.{ends_in, ends_on}
 use Rattle.gc_cert_searches.proofs.Assembling.{all_told}
 use Rattle.gc_cert_searches.proofs.InTurn.{on_ok}
