@@ -43,7 +43,7 @@ pub record IsFirstBy (m : Matched) (f : Pattern) (w : Walk) : Type 0 where
 abbrev pub AreFirstBy : Matched → Pattern → Type 0
 AreFirstBy m f = (w : Walk) → IsBound m.rows f.path w → IsFirstBy m f w
 
--- some walk from a node to a node conforms, and none at less of those with its edges
+-- some walk from a node to a node conforms, at the least cost at which it does
 abbrev pub HasWalk : Network → RegexTree ARegex → (source target : ℕ) → Type 0
 HasWalk network tree source target = (w : CostedWalk) × IsConforming (search network tree source target) w
 
