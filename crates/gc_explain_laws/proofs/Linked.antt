@@ -1,5 +1,6 @@
 -- The atoms of chains begin at nodes, or at what comes before them.
-use Rattle.std.proofs.Common.{◌≡◌, ◌⊎◌, inl, inr, ⊎_elim, ℕ, zero, suc, ◌<◌, ◌==◌, ◌&&◌, ◌||◌, nat_lt, Bool, true, false, List, [], ◌∷◌, ◌++◌, Option, None, Some, is_some, refl, sym, ap, ◌∙◌, subst, arith, slice_get}
+use Rattle.std.proofs.Common.{◌≡◌, ◌⊎◌, inl, inr, ⊎_elim, ℕ, zero, suc, ◌<◌, ◌==◌, ◌&&◌, ◌||◌, nat_lt, Bool, true, false}
+use Rattle.std.proofs.Common.{List, [], ◌∷◌, ◌++◌, Option, None, Some, is_some, slice_get, refl, sym, ap, ◌∙◌, subst, arith}
 use Rattle.std.proofs.lemmas.Bool.Decides.{nat_tests}
 use Rattle.std.proofs.lemmas.List.Folds.{list_any-append}
 use Rattle.std.specs.Prelude.{⊤}
@@ -19,9 +20,10 @@ use Rattle.gc_alg.specs.declared.atom.Atom.{Atom}
 use Rattle.gc_alg.proofs.Schemas.{itself, or_left, or_right}
 use Rattle.gc_plan.proofs.Bindings.{and_left, and_right}
 use Rattle.gc_explain.specs.ExplainedTrees.{HasBefore, IsLinked, begins_at, rank}
-use Rattle.gc_lower.specs.Chains.{atoms_of, chain_atoms, edge_atoms, element_variable, node_atoms, node_variable, next_variable, part_atoms, path_atom, property_atoms, view_atoms}
+use Rattle.gc_lower.specs.Chains.{atoms_of, chain_atoms, edge_atoms, element_variable, next_variable, node_atoms, node_variable}
+use Rattle.gc_lower.specs.Chains.{part_atoms, path_atom, property_atoms, view_atoms}
 use Rattle.gc_lower.specs.Scopes.{Scope, graph_of, variable_or}
-use Rattle.gc_explain_laws.specs.NodeBlocks.{first_begins, first_chain_begins}
+use Rattle.gc_explain_laws.specs.NodeBlocks.{first_begins, first_of_view_begins}
 
 -- whether an atom that comes before others has a variable, and whether one of some does
 abbrev brings : (limit : ℕ) → Sym → Atom → Bool
@@ -145,7 +147,8 @@ begins_at_number whole [] all n a e = cc
 begins_at_number whole (b ∷ atoms) all zero a e = let same : b ≡ a = cc in subst (Begins whole) same all.0
 begins_at_number whole (b ∷ atoms) all (suc n) a e = begins_at_number whole atoms all.1 n a e
 
-has_before : (atoms : List Atom) (conjuncts : Tree (alg.RowOf AConjunct)) (limit : ℕ) (x : Sym) → held atoms limit x ≡ true → HasBefore (PartOf atoms conjuncts) limit x
+has_before : (atoms : List Atom) (conjuncts : Tree (alg.RowOf AConjunct)) (limit : ℕ) (x : Sym) → held atoms limit x ≡ true
+    → HasBefore (PartOf atoms conjuncts) limit x
 has_before atoms conjuncts limit x h =
     let found = holder atoms limit x h in
     let below : nat_lt (rank found.atom.what) limit ≡ true = and_left (nat_lt (rank found.atom.what) limit) _ found.brings in
@@ -161,10 +164,12 @@ linked : (atoms : List Atom) (conjuncts : Tree (alg.RowOf AConjunct)) → AllBeg
 linked atoms conjuncts all n a e =
     ⊎_elim (λ z. inl z) (λ h. inr (has_before atoms conjuncts (rank a.what) (begins_at a.what) h)) (begins_at_number atoms atoms all n a e)
 
-pub block_linked : (s : Scope) (located : tree.Tree (RowOf ALocated)) (conjuncts : Tree (alg.RowOf AConjunct)) → IsLinked (PartOf (atoms_of s located) conjuncts)
+pub block_linked : (s : Scope) (located : tree.Tree (RowOf ALocated)) (conjuncts : Tree (alg.RowOf AConjunct))
+    → IsLinked (PartOf (atoms_of s located) conjuncts)
 block_linked s located conjuncts = linked (atoms_of s located) conjuncts (all_begin s (atoms_of s located) located (λ limit x h. h))
 
-pub view_linked : (s : Scope) (chains : tree.Tree (RowOf (RowOf APattern))) (conjuncts : Tree (alg.RowOf AConjunct)) → IsLinked (PartOf (view_atoms s chains) conjuncts)
+pub view_linked : (s : Scope) (chains : tree.Tree (RowOf (RowOf APattern))) (conjuncts : Tree (alg.RowOf AConjunct))
+    → IsLinked (PartOf (view_atoms s chains) conjuncts)
 view_linked s chains conjuncts = linked (view_atoms s chains) conjuncts (all_of_view_begin s (view_atoms s chains) chains (λ limit x h. h))
 
 -- a block whose first chain begins with a node has an atom
@@ -175,7 +180,8 @@ block_has_atom s (tree.more (tree.Located (tree.more (tree.Node (tree.Element to
 block_has_atom s (tree.more (tree.Located (tree.more (tree.Edge way e) later) on) located) h = cc
 block_has_atom s (tree.more (tree.Located (tree.more (tree.Path token regex_at body) later) on) located) h = cc
 
-pub view_has_atom : (s : Scope) (chains : tree.Tree (RowOf (RowOf APattern))) → first_chain_begins chains ≡ true → is_some (slice_get (view_atoms s chains) 0) ≡ true
+pub view_has_atom : (s : Scope) (chains : tree.Tree (RowOf (RowOf APattern))) → first_of_view_begins chains ≡ true
+    → is_some (slice_get (view_atoms s chains) 0) ≡ true
 view_has_atom s tree.none h = cc
 view_has_atom s (tree.more tree.none chains) h = cc
 view_has_atom s (tree.more (tree.more (tree.Node (tree.Element token name labels ps)) later) chains) h = refl

@@ -21,7 +21,8 @@ use Rattle.gc_lower.specs.Reads.{has_read, read_in, reads_of, reads_of_atom}
 same_atoms : (atoms : List Atom) (x : Sym) → lists (flat_map (λ (a : Atom). variables_of a.what) atoms) x ≡ list_any (in_atom x) atoms
 same_atoms [] x = refl
 same_atoms (a ∷ atoms) x =
-    lists_append (variables_of a.what) (flat_map (λ (b : Atom). variables_of b.what) atoms) x ∙ ap (λ t. lists (variables_of a.what) x || t) (same_atoms atoms x)
+    lists_append (variables_of a.what) (flat_map (λ (b : Atom). variables_of b.what) atoms) x
+    ∙ ap (λ t. lists (variables_of a.what) x || t) (same_atoms atoms x)
 
 same_conjuncts : (conjuncts : Tree (RowOf AConjunct)) (x : Sym) → list_any (in_conjunct x) (items conjuncts) ≡ in_conjuncts x conjuncts
 unfolding items
@@ -92,9 +93,11 @@ same_read [] x = refl
 same_read (r ∷ reads) x = ap (λ t. (r.var.0 == x.0) || t) (same_read reads x)
 
 -- a query keeps as an outer variable what is read around it and occurs in its block
-pub outer_kept : (reads : List ReadUse) (block : Tree ABlock) (x : Sym) → has_read reads x ≡ true → occurs_in_block block x ≡ true → lists (outer_of reads block) x ≡ true
+pub outer_kept : (reads : List ReadUse) (block : Tree ABlock) (x : Sym) → has_read reads x ≡ true → occurs_in_block block x ≡ true
+    → lists (outer_of reads block) x ≡ true
 outer_kept reads block x read occurs =
-    kept (λ y. y) (occurs_in block) (each_once (map (λ r. r.var) reads)) x (comes [] (map (λ r. r.var) reads) x (same_read reads x ∙ read)) (sym (same_occurs block x) ∙ occurs)
+    let vars : List Sym = map (λ r. r.var) reads in
+    kept (λ y. y) (occurs_in block) (each_once vars) x (comes [] vars x (same_read reads x ∙ read)) (sym (same_occurs block x) ∙ occurs)
 
 -- what the atoms of a part have is read by them
 same_uses : (graph : ℕ) (vars : List Sym) (x : Sym) → has_read (map (read_in graph) vars) x ≡ lists vars x
@@ -120,8 +123,8 @@ pub read_before : (reads before more_reads : List ReadUse) → AreReadIn reads b
 read_before reads before more_reads all x h = list_any-append (λ (r : ReadUse). r.var.0 == x.0) before more_reads ∙ or_left (has_read before x) _ (all x h)
 
 -- what the EXISTS queries of a part see is read in their sight
-pub sight_read : (reads before : List ReadUse) (around : List Sym) (atoms : List Atom) (conjuncts : Tree (RowOf AConjunct)) → AreRead reads around → AreReadIn reads before
-    → AreRead (sight reads before atoms) (seen_around around (PartOf atoms conjuncts))
+pub sight_read : (reads before : List ReadUse) (around : List Sym) (atoms : List Atom) (conjuncts : Tree (RowOf AConjunct)) → AreRead reads around
+    → AreReadIn reads before → AreRead (sight reads before atoms) (seen_around around (PartOf atoms conjuncts))
 sight_read reads before around atoms conjuncts read all x h =
     let own : List ReadUse = reads_of atoms in
     let vars : List Sym = part_variables (PartOf atoms conjuncts) in

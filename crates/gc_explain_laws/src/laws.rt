@@ -22,6 +22,7 @@ pub fn blocks_of_query_files_are_sound()
 
 /// The plan whose steps are printed for a MATCH with its OPTIONAL blocks and EXISTS queries means exactly the rows of its
 /// block, on every database and whatever the graphs that the estimates come from; that of a view likewise.
+/// That it is made of the printed steps is `printed` of `printed_steps_are_those_of_a_plan_that_means_its_block`.
 pub fn printed_plan_means_the_rows_of_its_match()
     ensures matched { (graphs : List PropertyGraph) (s : Scope) (basic : Tree ABasic) → HasNodes basic
         → (db : Database) → Means db (block_of s [] basic) (printed_plan graphs (block_of s [] basic)) }
