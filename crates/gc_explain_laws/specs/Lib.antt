@@ -1,0 +1,2 @@
+pub mod NodeBlocks
+pub mod PrintedPlans
