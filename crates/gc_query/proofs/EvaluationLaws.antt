@@ -9,6 +9,7 @@ use Rattle.gc_ast.specs.declared.query.SetOp.{SetOp}
 use Rattle.gc_ast.specs.QueryViews.{basic_tree, head_tree, next_term_tree, query_tree, term_tree}
 use Rattle.gc_ast.specs.Trees.{Tree, ABasic, AFormula, AHead, APattern, AQuery, ATerm, ANextTerm, Named, RowOf, PathHead, GraphHead, row}
 use Rattle.gc_ast.specs.Trees as tree
+use Rattle.gc_cert.specs.declared.document.SearchDoc.{SearchDoc}
 use Rattle.gc_expr.specs.Views.{Names}
 use Rattle.gc_lower.specs.Scopes.{Scope}
 use Rattle.gc_lower.proofs.TreeParts.{basic_term, query_parts, query_term}
@@ -17,11 +18,11 @@ use Rattle.gc_prod.specs.Segments.{Segments}
 use Rattle.gc_rows.specs.Tables.{Relation}
 use Rattle.gc_lower.specs.Blocks.{block_of}
 use Rattle.gc_query.specs.Evaluations.{evaluation, Evaluates, EvaluatesBasic, EvaluatesHead, EvaluatesHeads, EvaluatesLater, EvaluatesTerm, Evaluation, InTurn, names_under, names_under_all}
-use Rattle.gc_query.specs.Logs.{GainsAs, IsGained, IsToldOf, Log, Tells, ToldAs, behind, explained, explained_after, with_told}
+use Rattle.gc_query.specs.Logs.{AreAllSearched, GainsAs, IsGained, IsToldOf, Log, Tells, ToldAs, behind, explained, explained_after, with_told}
 use Rattle.gc_query.specs.Queries.{Combines, DenotesTerm, Heads}
 use Rattle.gc_query.specs.Standings.{Made, Standing}
 use Rattle.gc_query.specs.declared.log.Wants.{Wants}
-use Rattle.gc_query.specs.declared.log.Wants.TheVariants.{Nothing, Plans}
+use Rattle.gc_query.specs.declared.log.Wants.TheVariants.{Nothing, Plans, Searches}
 use Rattle.gc_query.proofs.BuiltRests.{next_row}
 
 abbrev Named-graphs : Type 0
@@ -55,15 +56,17 @@ module _ (s : Scope) where
       by : (w : Wants) → GainsAs w s log [] log
       by Nothing = refl
       by Plans = ap (λ lines. record log { lines = lines }) (sym (append-nil log.lines))
+      by Searches = ([], refl, ap (λ docs. record log { searches = docs }) (sym (append-nil log.searches)))
 
   -- what is told of a CONSTRUCT is what is gained of it
   pub told_of : (log after : Log) (basic : Tree ABasic) (names : Named-graphs) (graphs : List PropertyGraph) (segments : List Segments) (table : Relation)
-      → IsToldOf s names graphs (block_of s [] basic) log after → IsGained s log (evaluation basic names graphs segments table ∷ []) after
+      → IsToldOf s names graphs (block_of s [] basic) segments table log after → IsGained s log (evaluation basic names graphs segments table ∷ []) after
   told_of log after basic names graphs segments table h = by log.wants h
     where
-      by : (w : Wants) → ToldAs w s names graphs (block_of s [] basic) log after → GainsAs w s log (evaluation basic names graphs segments table ∷ []) after
+      by : (w : Wants) → ToldAs w s names graphs (block_of s [] basic) segments table log after → GainsAs w s log (evaluation basic names graphs segments table ∷ []) after
       by Nothing h = h
       by Plans h = h
+      by Searches (docs, are, is) = (docs, (docs, [], sym (append-nil docs), are, refl), is)
 
   -- lines behind lines
   more_lines : (before : ℕ) (lines : List (List ℕ)) (xs ys : List Evaluation)
@@ -76,29 +79,46 @@ module _ (s : Scope) where
       append_assoc lines here (explained_after s (before + length (lines ++ here)) ys)
       ∙ ap (λ rest. lines ++ rest) (ap (λ k. here ++ explained_after s k ys) count ∙ sym (after_more n xs ys))
 
-  gains_more : (w : Wants) (before : ℕ) (lines : List (List ℕ)) (xs ys : List Evaluation) (b c : Log)
-      → IsGained s (record { wants = w; before = before; lines = lines }) xs b → IsGained s b ys c
-      → IsGained s (record { wants = w; before = before; lines = lines }) (xs ++ ys) c
-  gains_more Nothing before lines xs ys b c h k = subst (λ (l : Log). IsGained s l ys c) h k
-  gains_more Plans before lines xs ys b c h k =
-      subst (λ (l : Log). IsGained s l ys c) h k ∙ ap (λ ls. record { wants = Plans; before = before; lines = ls }) (more_lines before lines xs ys)
+  -- documents of some CONSTRUCTs, and of others behind them
+  searched_more : (xs ys : List Evaluation) (a b : List SearchDoc) → AreAllSearched s xs a → AreAllSearched s ys b → AreAllSearched s (xs ++ ys) (a ++ b)
+  searched_more [] ys a b h k = subst (λ docs. AreAllSearched s ys (docs ++ b)) (sym h) k
+  searched_more (x ∷ xs) ys a b (here, rest, whole, first, later) k =
+      (here, rest ++ b, ap (λ docs. docs ++ b) whole ∙ append_assoc here rest b, first, searched_more xs ys rest b later k)
+
+  gains_more : (w : Wants) (before : ℕ) (lines : List (List ℕ)) (searches : List SearchDoc) (xs ys : List Evaluation) (b c : Log)
+      → IsGained s (record { wants = w; before = before; lines = lines; searches = searches }) xs b → IsGained s b ys c
+      → IsGained s (record { wants = w; before = before; lines = lines; searches = searches }) (xs ++ ys) c
+  gains_more Nothing before lines searches xs ys b c h k = subst (λ (l : Log). IsGained s l ys c) h k
+  gains_more Plans before lines searches xs ys b c h k =
+      subst (λ (l : Log). IsGained s l ys c) h k ∙ ap (λ ls. record { wants = Plans; before = before; lines = ls; searches = searches }) (more_lines before lines xs ys)
+  gains_more Searches before lines searches xs ys b c (found, are, is) k =
+      let more : (docs : List SearchDoc) × AreAllSearched s ys docs × (c ≡ record { wants = Searches; before = before; lines = lines; searches = (searches ++ found) ++ docs }) = subst (λ (l : Log). IsGained s l ys c) is k in (
+        found ++ more.0,
+        searched_more xs ys found more.0 are more.1,
+        more.2 ∙ ap (λ docs. record { wants = Searches; before = before; lines = lines; searches = docs }) (append_assoc searches found more.0),
+      )
 
   -- what is gained one after another
   pub gained_more : (a b c : Log) (xs ys : List Evaluation) → IsGained s a xs b → IsGained s b ys c → IsGained s a (xs ++ ys) c
-  gained_more a b c xs ys h k = gains_more a.wants a.before a.lines xs ys b c h k
+  gained_more a b c xs ys h k = gains_more a.wants a.before a.lines a.searches xs ys b c h k
 
   -- what is gained behind a log is gained by it once it takes that
-  takes : (w : Wants) (lines : List (List ℕ)) (xs : List Evaluation) (told : Log) → IsGained s (behind (record { wants = w; before = 0; lines = lines })) xs told
-      → IsGained s (record { wants = w; before = 0; lines = lines }) xs (with_told (record { wants = w; before = 0; lines = lines }) told)
-  takes Nothing lines xs told h = ap (λ (l : Log). record { wants = Nothing; before = 0; lines = lines ++ l.lines }) h ∙ ap (λ ls. record { wants = Nothing; before = 0; lines = ls }) (append-nil lines)
-  takes Plans lines xs told h =
+  takes : (w : Wants) (lines : List (List ℕ)) (searches : List SearchDoc) (xs : List Evaluation) (told : Log)
+      → IsGained s (behind (record { wants = w; before = 0; lines = lines; searches = searches })) xs told
+      → IsGained s (record { wants = w; before = 0; lines = lines; searches = searches }) xs (with_told (record { wants = w; before = 0; lines = lines; searches = searches }) told)
+  takes Nothing lines searches xs told h = refl
+  takes Plans lines searches xs told h =
       let n : length lines + 0 ≡ 0 + length lines = omega arith in
-      ap (λ (l : Log). record { wants = Plans; before = 0; lines = lines ++ l.lines }) h ∙ ap (λ k. record { wants = Plans; before = 0; lines = lines ++ explained_after s k xs }) n
+      ap (λ (l : Log). record { wants = Plans; before = 0; lines = lines ++ l.lines; searches = searches }) h
+      ∙ ap (λ k. record { wants = Plans; before = 0; lines = lines ++ explained_after s k xs; searches = searches }) n
+  takes Searches lines searches xs told (docs, are, is) =
+      (docs, are, ap (λ (l : Log). record { wants = Searches; before = 0; lines = lines; searches = searches ++ l.searches }) is)
 
   pub tells_taken : (Are : List Evaluation → Type 0) (log told : Log) → log.before ≡ 0 → Tells s Are (behind log) told → Tells s Are log (with_told log told)
   tells_taken Are log told none (xs, are, h) =
-      let whole : log ≡ record { wants = log.wants; before = 0; lines = log.lines } = λ i. record { wants = log.wants; before = none i; lines = log.lines } in
-      (xs, are, subst (λ l. IsGained s l xs (with_told l told)) (sym whole) (takes log.wants log.lines xs told h))
+      let whole : log ≡ record { wants = log.wants; before = 0; lines = log.lines; searches = log.searches } =
+      λ i. record { wants = log.wants; before = none i; lines = log.lines; searches = log.searches } in
+      (xs, are, subst (λ l. IsGained s l xs (with_told l told)) (sym whole) (takes log.wants log.lines log.searches xs told h))
 
   pub tells_none : (Are : List Evaluation → Type 0) (log : Log) → Are [] → Tells s Are log log
   tells_none Are log are = ([], are, gained_none log)

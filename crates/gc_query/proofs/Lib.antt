@@ -5,6 +5,7 @@ mod CostLaws
 mod DistinctVariables
 mod EvaluationLaws
 mod ExplainedViews
+mod FoundSearched
 mod FreeWords
 mod Heads
 mod OneOutcome

@@ -57,7 +57,16 @@ pub(crate) fn basic_made<L: Ledger>(
     let lowered = lower_match(session.alloc, session.checked, basic)?;
     let segments = segments_used(session, graphs, &lowered.block, steps)?;
     let table = table_of(session.alloc, graphs, &segments, &lowered.block, steps)?;
-    tell(session, named, graphs, &lowered.block, told)?;
+    tell(
+        session,
+        named,
+        graphs,
+        &lowered.block,
+        &segments,
+        &table,
+        told,
+        steps,
+    )?;
     let costs = costs_of(session.alloc, session.checked, basic)?;
     if let Some(past) = first_past(&costs, table.rows().as_slice()) {
         return Err(QueryRefusal::Fault(Fault::CostPastRange {

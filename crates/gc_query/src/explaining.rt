@@ -1,11 +1,15 @@
-ghost use Rattle.std.specs.Prelude.{◌≡◌, ◌∷◌, ◌++◌, [], map, IfOk, OnOk};
+ghost use Rattle.std.specs.Prelude.{◌≡◌, ◌∷◌, ◌++◌, [], map, true, IfOk, OnOk};
 ghost use Rattle.std.specs.List.{flat_map};
 ghost use Rattle.std.specs.Option.{option_copied};
+ghost use Rattle.gc_alg.specs.Tables.{IsTableOfBlock};
 ghost use Rattle.gc_alg.specs.Views.{block_tree};
 ghost use Rattle.gc_ast.specs.QueryViews.{head_tree};
 ghost use Rattle.gc_ast.specs.PatternViews.{named};
 ghost use Rattle.gc_explain_query.specs.QueryLines.{view_of};
 ghost use Rattle.gc_query.specs.Answered.{names_in, scope_in};
+ghost use Rattle.gc_exec.specs.Runs.{setting};
+ghost use Rattle.gc_walks.specs.Databases.{AreOnGraphs};
+ghost use Rattle.gc_query.specs.Built.{are_searched};
 ghost use Rattle.gc_query.specs.Logs.{IsToldOf, explained_head, explained_on, explained_view, named_view, word_if};
 ghost use Rattle.gc_query.specs.UsedViews.{in_turn, uses_of};
 
@@ -15,28 +19,42 @@ use crate::session::Session;
 use crate::used_views::{ViewOn, uses_of};
 use gc_alg::Block;
 use gc_ast::Head;
-use gc_base::{Bytes, Duplicate, Memory, Name, NameAt};
+use gc_base::{Bytes, Duplicate, Memory, Name, NameAt, Steps};
 use gc_catalog::Catalog;
+use gc_cert_searches::searches_of;
 use gc_explain_query::{ExplainedView, query_lines};
 use gc_lower::lower_view;
 use gc_ppg::GraphList;
+use gc_prod::SegmentTable;
+use gc_rows::Table;
+use std::sync::ledger::Ledger;
 
 /// Tells what is wanted of a CONSTRUCT that was evaluated, by the block of its MATCH, over graphs which have their
-/// names in a catalog.
-pub(crate) fn tell(
+/// names in a catalog, with the segments that it uses and its table.
+pub(crate) fn tell<L: Ledger>(
     session: &Session<'_>,
     named: &Catalog,
     graphs: &GraphList,
     block: &Block,
+    segments: &SegmentTable,
+    table: &Table,
     told: &mut Told,
+    steps: &mut Steps<L>,
 ) -> Result<(), Memory>
-    ensures { OnOk result (IsToldOf (scope_in session.now) named.now.names graphs.now (block_tree block.now) told.old told.new) }
+    requires searched { are_searched (block_tree block.now) ≡ true }
+    requires there { AreOnGraphs graphs.now segments.now }
+    requires matched { IsTableOfBlock (setting graphs.now segments.now (block_tree block.now) []) table.now }
+    ensures { OnOk result (IsToldOf (scope_in session.now) named.now.names graphs.now (block_tree block.now) segments.now table.now told.old told.new) }
 {
     match told.wants() {
         Wants::Nothing => Ok(()),
         Wants::Plans => {
             let lines = lines_of(session, named, graphs, block, told.next_number())?;
             told.push(lines)
+        }
+        Wants::Searches => {
+            let docs = searches_of(session.alloc, block, graphs, segments, table, steps)?;
+            told.push_searches(docs)
         }
     }
 }

@@ -36,7 +36,7 @@ pub(crate) fn view_step<L: Ledger>(
 {
     let mut told = log.behind();
     let made = answered(alloc, checked, query, catalog, &mut told, steps)?;
-    let lines = log.lines().len();
+    let (lines, searches) = (log.lines().len(), log.searches().len());
     log.take(told)?;
     let (graphs, free) = (catalog.graphs().len(), catalog.next());
     catalog.set_next(made.next);
@@ -44,7 +44,7 @@ pub(crate) fn view_step<L: Ledger>(
         Ok(()) => Ok(None),
         Err(Memory) => {
             catalog.back_to(graphs, free);
-            log.back_to(lines);
+            log.back_to(lines, searches);
             Err(QueryRefusal::Memory)
         }
     }

@@ -1,7 +1,8 @@
-ghost use Rattle.std.specs.Prelude.{◌≡◌, [], ◌≤◌, length, take, OnErr, OnOk};
+ghost use Rattle.std.specs.Prelude.{◌≡◌, [], length, take, OnErr, OnOk};
 ghost use Rattle.gc_query.specs.Logs.{behind, with_told};
 
 use gc_base::{Bytes, Memory};
+use gc_cert::SearchDoc;
 use std::alloc::Global;
 use std::marker::Model;
 
@@ -12,6 +13,8 @@ pub enum Wants {
     Nothing,
     /// The lines that explain their plans.
     Plans,
+    /// The documents of the searches for the walks that their tables bind.
+    Searches,
 }
 
 /// What a session keeps of the CONSTRUCTs that its statements evaluate, in the order in which they end.
@@ -19,14 +22,20 @@ pub enum Wants {
 pub struct RunLog {
     wants: Wants,
     lines: Vec<Bytes>,
+    searches: Vec<SearchDoc>,
 }
 
 impl Model for RunLog {
     ghost use Rattle.gc_query.specs.Logs.{Log};
 
+    ghost use Rattle.gc_regx.specs.contracts.regex.Regex as expression;
+    ghost use Rattle.std.specs.Coded.{codes};
+
     ghost Value = { Log };
 
-    ghost view = { λ l. record { wants = l.wants; before = 0; lines = l.lines.items } };
+    ghost coded = { Prim.hlevel (codes, expression.the_row.coded) };
+
+    ghost view = { λ l. record { wants = l.wants; before = 0; lines = l.lines.items; searches = l.searches.items } };
 }
 
 impl RunLog {
@@ -39,6 +48,7 @@ impl RunLog {
         RunLog {
             wants,
             lines: Vec::new(alloc),
+            searches: Vec::new(alloc),
         }
     }
 
@@ -47,6 +57,20 @@ impl RunLog {
         ensures { result.now ≡ self.now.lines }
     {
         &self.lines
+    }
+
+    /// The documents of searches, in the order in which they were told; none where it wants no searches.
+    pub fn searches(&self) -> &[SearchDoc]
+        ensures { result.now ≡ self.now.searches }
+    {
+        &self.searches
+    }
+
+    /// The documents by value.
+    pub fn into_searches(self) -> Vec<SearchDoc>
+        ensures { result.items ≡ self.searches }
+    {
+        self.searches
     }
 
     /// A log of what is evaluated behind all that this one has. It takes no memory.
@@ -58,6 +82,7 @@ impl RunLog {
             wants: self.wants,
             before: self.lines.len(),
             lines: Vec::new(*self.lines.allocator()),
+            searches: Vec::new(*self.lines.allocator()),
         }
     }
 
@@ -66,17 +91,24 @@ impl RunLog {
         ensures taken { OnOk result (self.new ≡ with_told self.old told) }
         ensures same { OnErr result (self.new ≡ self.old) }
     {
-        let mut lines = told.lines;
-        self.lines.append(&mut lines)?;
-        Ok(())
+        let Told {
+            mut lines,
+            mut searches,
+            ..
+        } = told;
+        match self.wants {
+            Wants::Nothing => Ok(()),
+            Wants::Plans => Ok(self.lines.append(&mut lines)?),
+            Wants::Searches => Ok(self.searches.append(&mut searches)?),
+        }
     }
 
-    /// Keeps the lines of the first CONSTRUCTs.
-    pub(crate) fn back_to(&mut self, lines: usize)
-        requires { lines ≤ length self.old.lines }
-        ensures { self.new ≡ record self.old { lines = take lines self.old.lines } }
+    /// Keeps the first lines and documents.
+    pub(crate) fn back_to(&mut self, lines: usize, searches: usize)
+        ensures { self.new ≡ record self.old { lines = take lines self.old.lines; searches = take searches self.old.searches } }
     {
         self.lines.truncate(lines);
+        self.searches.truncate(searches);
     }
 }
 
@@ -86,15 +118,21 @@ pub(crate) struct Told {
     wants: Wants,
     before: usize,
     lines: Vec<Bytes>,
+    searches: Vec<SearchDoc>,
 }
 
 impl Model for Told {
     ghost use Rattle.std.specs.Prelude.{◌<◌, ◌^◌};
     ghost use Rattle.gc_query.specs.Logs.{Log};
 
+    ghost use Rattle.gc_regx.specs.contracts.regex.Regex as expression;
+    ghost use Rattle.std.specs.Coded.{codes};
+
     ghost Value = { Log };
 
-    ghost view = { λ t. record { wants = t.wants; before = t.before; lines = t.lines.items } };
+    ghost coded = { Prim.hlevel (codes, expression.the_row.coded) };
+
+    ghost view = { λ t. record { wants = t.wants; before = t.before; lines = t.lines.items; searches = t.searches.items } };
 
     // as many as there can be in a list
     ghost invariant = { λ t. t.before < 2 ^ 63 };
@@ -122,6 +160,15 @@ impl Told {
         ensures { OnOk result (self.new ≡ record self.old { lines = self.old.lines ++ lines ∷ [] }) }
     {
         self.lines.push(lines)?;
+        Ok(())
+    }
+
+    /// Keeps documents of searches.
+    pub fn push_searches(&mut self, docs: Vec<SearchDoc>) -> Result<(), Memory>
+        ensures { OnOk result (self.new ≡ record self.old { searches = self.old.searches ++ docs.items }) }
+    {
+        let mut docs = docs;
+        self.searches.append(&mut docs)?;
         Ok(())
     }
 }

@@ -32,6 +32,12 @@ table_made-requires-clause-block g c = c.in_ok-lowered.ensures.is_block
 pub table_made-requires-clause-matched : goal.table_made-requires-clause-matched
 table_made-requires-clause-matched g c = c.in_ok-table.ensures
 
+pub tell-requires-clause-searched : goal.tell-requires-clause-searched
+tell-requires-clause-searched g c = ap are_searched c.in_ok-lowered.ensures.is_block ∙ c.requires.built.searched
+
+pub tell-requires-clause-matched : goal.tell-requires-clause-matched
+tell-requires-clause-matched g c = c.in_ok-table.ensures
+
 -- what was evaluated was told
 pub returns-clause-told : goal.returns-clause-told
 returns-clause-told g c =
@@ -53,7 +59,7 @@ returns-clause-told g c =
         refl,
       ),
       told_of s c.args.told.now c.tell.new.told tree c.args.named.now.names graphs c.in_ok-segments.segments c.in_ok-table.table
-          (subst (λ (b : Tree ABlock). IsToldOf s c.args.named.now.names graphs b c.args.told.now c.tell.new.told) is c.in_ok-tell.ensures),
+          (subst (λ (b : Tree ABlock). IsToldOf s c.args.named.now.names graphs b c.in_ok-segments.segments c.in_ok-table.table c.args.told.now c.tell.new.told) is c.in_ok-tell.ensures),
     )
 
 pub returns-in_err-segments-clause-due : goal.returns-in_err-segments-clause-due

@@ -1,4 +1,4 @@
-use Rattle.std.proofs.Common.{◌≡◌, ℕ, List, [], ◌∷◌, ◌++◌, length, take, Ok, Err, refl, sym, ap, ◌∙◌, subst}
+use Rattle.std.proofs.Common.{◌≡◌, ℕ, List, [], ◌∷◌, ◌++◌, length, take, append-nil, Ok, Err, refl, sym, ap, ◌∙◌, subst}
 use Rattle.std.specs.List.{AllByRecursion}
 use Rattle.gc_ast.specs.PatternViews.{named}
 use Rattle.gc_ast.specs.QueryViews.{query_tree}
@@ -8,7 +8,9 @@ use Rattle.gc_lower.specs.Namings.{scope_of}
 use Rattle.gc_spec.specs.Coherence.{AreCoherent}
 use Rattle.gc_spec.specs.PropertyGraph.{PropertyGraph}
 use Rattle.gc_query.specs.Evaluations.{Evaluates, Evaluation}
-use Rattle.gc_query.specs.Logs.{Log, Tells, with_told}
+use Rattle.gc_query.specs.Logs.{Log, Tells, taken_as, with_told}
+use Rattle.gc_query.specs.declared.log.Wants.{Wants}
+use Rattle.gc_query.specs.declared.log.Wants.TheVariants.{Nothing, Plans, Searches}
 use Rattle.gc_query.specs.Queries.{Denotes}
 use Rattle.gc_query.specs.Standings.{Made}
 use Rattle.gc_query.specs.Steps.{free_word, standing, with_named, with_next}
@@ -72,16 +74,30 @@ returns-in-Ok-clause-log g c =
     (tells_taken s are c.args.log.now c.answered.new.told c.behind-told.ensures.begins
     (subst (λ (l : Log). Tells s are l c.answered.new.told) c.behind-told.ensures.told c.in_ok-made.ensures.told))
 
--- the first lines of a log that took more are those that it had
-first_lines : (log told after : Log) (n : ℕ) → n ≡ length log.lines → after ≡ with_told log told → record after { lines = take n after.lines } ≡ log
-first_lines log told after n many taken =
-    let lines : take n after.lines ≡ log.lines = ap (λ (l : Log). take n l.lines) taken ∙ (ap (λ k. take k (log.lines ++ told.lines)) many ∙ take_all log.lines told.lines) in
-    λ i. record { wants = (taken i).wants; before = (taken i).before; lines = lines i }
+-- the first lines and documents of a log that took more are those that it had
+first_ones : {X : Type 0} (xs ys : List X) (n : ℕ) → n ≡ length xs → take n (xs ++ ys) ≡ xs
+first_ones xs ys n many = ap (λ k. take k (xs ++ ys)) many ∙ take_all xs ys
   where
     take_all : {X : Type 0} (xs ys : List X) → take (length xs) (xs ++ ys) ≡ xs
     take_all [] ys = refl
     take_all (x ∷ xs) ys = ap (λ zs. x ∷ zs) (take_all xs ys)
 
+all_ones : {X : Type 0} (xs : List X) (n : ℕ) → n ≡ length xs → take n xs ≡ xs
+all_ones xs n many = ap (take n) (sym (append-nil xs)) ∙ first_ones xs [] n many
+
+first_again : (log told : Log) (n m : ℕ) → n ≡ length log.lines → m ≡ length log.searches
+    → record (with_told log told) { lines = take n (with_told log told).lines; searches = take m (with_told log told).searches } ≡ log
+first_again log told n m many more = by log.wants
+  where
+    by : (w : Wants) → record (taken_as w log told) { lines = take n (taken_as w log told).lines; searches = take m (taken_as w log told).searches } ≡ log
+    by Nothing = λ i. record log { lines = all_ones log.lines n many i; searches = all_ones log.searches m more i }
+    by Plans = λ i. record log { lines = first_ones log.lines told.lines n many i; searches = all_ones log.searches m more i }
+    by Searches = λ i. record log { lines = all_ones log.lines n many i; searches = first_ones log.searches told.searches m more i }
+
 pub returns-in-Err-clause-log : goal.returns-in-Err-clause-log
 returns-in-Err-clause-log g c =
-    c.back_to-in-Err.ensures ∙ first_lines c.args.log.now c.answered.new.told c.take.new.self (length c.lines-lines.result.now) (ap length c.lines-lines.ensures) c.in_ok-take.ensures.taken
+    let n = length c.lines.result.now in
+    let m = length c.searches.result.now in
+    c.back_to-in-Err.ensures
+    ∙ (ap (λ (l : Log). record l { lines = take n l.lines; searches = take m l.searches }) c.in_ok-take.ensures.taken
+    ∙ first_again c.args.log.now c.answered.new.told n m (ap length c.lines.ensures) (ap length c.searches.ensures))
