@@ -1,0 +1,13 @@
+pub mod ConstructsRead
+pub mod ExpressionLevels
+pub mod FilesReadBack
+pub mod LexedPieces
+pub mod LexedTokens
+pub mod Operators
+pub mod PatternsRead
+pub mod Primaries
+pub mod QueriesRead
+pub mod Relocated
+pub mod Rereading
+pub mod TokensRead
+pub mod Utf8Pieces
