@@ -1,13 +1,17 @@
 pub mod ConstructsRead
 pub mod ExpressionLevels
+pub mod ExpressionTexts
 pub mod FilesReadBack
 pub mod LexedPieces
 pub mod LexedTokens
 pub mod Operators
+pub mod PatternPieces
 pub mod PatternsRead
 pub mod Primaries
 pub mod QueriesRead
+pub mod QueryTexts
 pub mod Relocated
 pub mod Rereading
 pub mod TokensRead
 pub mod Utf8Pieces
+pub mod WrittenPieces

@@ -1,3 +1,4 @@
+pub mod AskedQueries
 pub mod ExpressionPieces
 pub mod Pieces
 pub mod QueryPieces

@@ -1,5 +1,5 @@
 -- What a text is written of: tokens, and the white space that parts them.
-use Rattle.std.specs.Prelude.{ℕ, ◌+◌, Bool, ◌&&◌, ◌||◌, ◌==◌, List, [], ◌∷◌, ◌++◌, replicate, if◌then◌else◌}
+use Rattle.std.specs.Prelude.{ℕ, zero, suc, ◌+◌, Bool, ◌&&◌, ◌||◌, ◌==◌, List, [], ◌∷◌, ◌++◌, replicate, if◌then◌else◌}
 use Rattle.gc_base.specs.Words.{is_word_part}
 use Rattle.gc_lex.specs.declared.token.Token.{Token}
 use Rattle.gc_regx.specs.Trees.{RegexTree, ARegex}
@@ -58,3 +58,8 @@ abbrev pub joined : List Piece → List (List Piece) → List Piece
 joined between [] = []
 joined between (pieces ∷ []) = pieces
 joined between (pieces ∷ others ∷ lists) = pieces ++ (between ++ joined between (others ∷ lists))
+
+-- what stands before a list of this number, from 0, in lists with something between them
+abbrev pub before_list : ℕ → List Piece → List Piece
+before_list zero between = []
+before_list (suc i) between = between

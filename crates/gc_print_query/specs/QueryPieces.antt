@@ -39,22 +39,29 @@ abbrev pub braced : List (List Piece) → List Piece
 braced [] = []
 braced (pieces ∷ lists) = Blank ∷ mark_piece mark.OpenBrace ∷ (listed (pieces ∷ lists) ++ mark_piece mark.CloseBrace ∷ [])
 
--- the arrow of an edge around what it has between brackets
+-- the arrow of an edge, up to its brackets and behind what is between them
+abbrev pub edge_start : Direction → List Piece
+edge_start Forward = mark_piece mark.Minus ∷ mark_piece mark.OpenBracket ∷ []
+edge_start Either = mark_piece mark.Minus ∷ mark_piece mark.OpenBracket ∷ []
+edge_start Backward = mark_piece mark.Less ∷ mark_piece mark.Minus ∷ mark_piece mark.OpenBracket ∷ []
+
+abbrev pub edge_end : Direction → List Piece
+edge_end Forward = mark_piece mark.CloseBracket ∷ mark_piece mark.Minus ∷ mark_piece mark.Greater ∷ []
+edge_end Either = mark_piece mark.CloseBracket ∷ mark_piece mark.Minus ∷ []
+edge_end Backward = mark_piece mark.CloseBracket ∷ mark_piece mark.Minus ∷ []
+
 abbrev pub edge : Direction → List Piece → List Piece
-edge Forward inside =
-    mark_piece mark.Minus ∷ mark_piece mark.OpenBracket
-    ∷ (inside ++ mark_piece mark.CloseBracket ∷ mark_piece mark.Minus ∷ mark_piece mark.Greater ∷ [])
-edge Either inside =
-    mark_piece mark.Minus ∷ mark_piece mark.OpenBracket ∷ (inside ++ mark_piece mark.CloseBracket ∷ mark_piece mark.Minus ∷ [])
-edge Backward inside =
-    mark_piece mark.Less ∷ mark_piece mark.Minus ∷ mark_piece mark.OpenBracket
-    ∷ (inside ++ mark_piece mark.CloseBracket ∷ mark_piece mark.Minus ∷ [])
+edge way inside = edge_start way ++ (inside ++ edge_end way)
 
 -- the arrow of a path
+abbrev pub path_start : List Piece
+path_start = mark_piece mark.Minus ∷ mark_piece mark.Slash ∷ []
+
+abbrev pub path_end : List Piece
+path_end = mark_piece mark.Slash ∷ mark_piece mark.Minus ∷ mark_piece mark.Greater ∷ []
+
 abbrev pub path : List Piece → List Piece
-path inside =
-    mark_piece mark.Minus ∷ mark_piece mark.Slash
-    ∷ (inside ++ mark_piece mark.Slash ∷ mark_piece mark.Minus ∷ mark_piece mark.Greater ∷ [])
+path inside = path_start ++ (inside ++ path_end)
 
 -- `3 SHORTEST`
 abbrev pub count_if : Option CountAt → List Piece

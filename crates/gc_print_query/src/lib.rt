@@ -2,6 +2,15 @@
 //! its tokens spell is that file, but for the numbers of the tokens. This crate knows of no parser.
 #![tactic(auto)]
 
+mod constructs;
+mod expressions;
+mod files;
 mod laws;
+mod lists;
+mod names;
+mod patterns;
+mod pieces;
+mod queries;
 
+pub use files::print_query;
 pub use laws::printed_files_read_back;
