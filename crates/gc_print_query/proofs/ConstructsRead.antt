@@ -1,5 +1,5 @@
 -- Expressions with their EXISTS queries, and what a CONSTRUCT makes, spelled anew.
-use Rattle.std.proofs.Common.{◌≡◌, ℕ, ℤ, zero, suc, ◌+◌, true, List, [], ◌∷◌, ◌++◌, map, Option, Some, None, refl, sym, ap, subst, ◌∙◌, append_assoc, codes}
+use Rattle.std.proofs.Common.{◌≡◌, ℕ, ◌+◌, true, List, [], ◌∷◌, ◌++◌, map, Option, Some, None, refl, sym, ap, subst, ◌∙◌, codes}
 use Rattle.std.specs.List.{flat_map}
 use Rattle.std.specs.Option.{option_map}
 use Rattle.gc_base.specs.Words.{is_word}
@@ -10,18 +10,18 @@ use Rattle.gc_ast.specs.Trees as tree
 use Rattle.gc_ast.specs.Trees.{Kind, RowOf, Tree, AQuery, AFormula, AnItem, AConstructPart, ANewElement, AGroupTerm, AnAssign, AChange, Named, row, maybe, Formula}
 use Rattle.gc_grammar.specs.Words as words
 use Rattle.gc_grammar.specs.Words.{Point, Lang, ◌⋅◌, ◌∣◌, ◌⇒◌, ◌▸◌, ◌◂◌, Alone, optional, many, separated}
-use Rattle.gc_grammar.specs.Expressions.{Expr, Inside, expr, formula}
+use Rattle.gc_grammar.specs.Expressions.{Expr, expr, formula}
 use Rattle.gc_grammar.specs.Patterns.{listed}
 use Rattle.gc_grammar.specs.Constructs as construct
 use Rattle.gc_grammar.specs.Constructs.{Unplaced, placed}
 use Rattle.gc_grammar.specs.Queries.{within}
 use Rattle.gc_print_query.specs.Pieces.{Piece, Blank, Line, joined}
-use Rattle.gc_print_query.specs.ExpressionPieces.{word, mark_piece, parenthesized, between, parts_of}
+use Rattle.gc_print_query.specs.ExpressionPieces.{word, mark_piece, parenthesized}
 use Rattle.gc_print_query.specs.QueryPieces.{pieces_of, name_if, label, braced, edge, path, copy_if, grouped, property_if, clause, enclosed}
-use Rattle.gc_print_query.specs.Tokens.{tokens_in, AreWritable}
-use Rattle.gc_print_query.specs.Unnumbered.{unnumbered, unnumbered_expr, unnumbered_name}
-use Rattle.gc_print_query.proofs.Rereading.{Grows, Listed, listed_own, grows_none, SameExists, Again, Read, Reads, converted, made, rewritten, restated, both, past, before, either, at_most_once, if_some, any_times, with_separators, nothing_read, a_word, a_name}
-use Rattle.gc_print_query.proofs.TokensRead.{lone_mark, spaced_mark, mark_blank, word_blank, spaced_word, line_word}
+use Rattle.gc_print_query.specs.Tokens.{AreWritable}
+use Rattle.gc_print_query.specs.Unnumbered.{unnumbered, unnumbered_name}
+use Rattle.gc_print_query.proofs.Rereading.{Grows, listed_own, grows_none, Read, Reads, converted, made, rewritten, restated, both, past, either, at_most_once, if_some, any_times, with_separators, nothing_read, a_word, a_name}
+use Rattle.gc_print_query.proofs.TokensRead.{lone_mark, spaced_mark, mark_blank, spaced_word, line_word}
 use Rattle.gc_print_query.proofs.Primaries.{InsideFine, expressions_read, parenthesized_reads}
 use Rattle.gc_print_query.proofs.PatternsRead.{row_pieces, row_unnumbered, row_flat, braced_reads, edge_of_reads, in_slashes_read, linked_read}
 

@@ -1,6 +1,5 @@
 -- Expressions at each level of the grammar, spelled anew.
-use Rattle.std.proofs.Common.{◌≡◌, ℕ, ℤ, zero, suc, ◌+◌, ◌-◌, ◌<◌, ◌≤◌, Bool, true, false, List, [], ◌∷◌, ◌++◌, map, length, Option, Some, None, refl, sym, ap, subst, ◌∙◌, arith, append_assoc, cond, nat_lt, codes}
-use Rattle.std.specs.List.{flat_map}
+use Rattle.std.proofs.Common.{◌≡◌, ℕ, zero, suc, ◌+◌, ◌-◌, ◌<◌, ◌≤◌, Bool, true, false, List, [], ◌∷◌, None, refl, sym, subst, ◌∙◌, arith, cond, nat_lt, codes}
 use Rattle.std.proofs.lemmas.Bool.{false≢true}
 use Rattle.std.proofs.lemmas.Bool.Decides.{nat_tests}
 use Rattle.std.proofs.lemmas.List.{append-nil}
@@ -8,10 +7,9 @@ use Rattle.gc_lex.specs.declared.token.Token.{Token}
 use Rattle.gc_lex.specs.declared.token.Mark.TheVariants as mark
 use Rattle.gc_expr.specs.Trees as tree
 use Rattle.gc_expr.specs.Trees.{At}
-use Rattle.gc_ast.specs.Trees.{Tree, AQuery}
 use Rattle.gc_grammar.specs.Words.{Point, Lang, next, ◌⋅◌, ◌∣◌, ◌⇒◌, ◌▸◌, ◌◂◌, optional, many, separated, the_word}
 use Rattle.gc_grammar.specs.Words as words
-use Rattle.gc_grammar.specs.Expressions.{Expr, Inside, prim, post, neg, prod, sum, cmp, not, and, expr, suffix, product_part, sum_part, comparison, suffixed, prefixed, multiplied, summed, compared, chained}
+use Rattle.gc_grammar.specs.Expressions.{Expr, Inside, prim, post, neg, prod, sum, cmp, not, and, expr, suffix, product_part, sum_part, comparison, suffixed, prefixed, multiplied, summed, compared}
 use Rattle.gc_grammar.specs.Queries.{within}
 use Rattle.gc_grammar.proofs.Chains.{before_nothing, behind_nothing, one_part}
 use Rattle.gc_print_query.specs.Pieces.{Piece}

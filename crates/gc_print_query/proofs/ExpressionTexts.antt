@@ -1,7 +1,7 @@
 -- The pieces of expressions that have lists, and the texts of EXISTS queries.
 use Rattle.std.proofs.Common.{◌<◌, ◌≤◌, arith, length, get_or}
-use Rattle.std.proofs.Common.{◌≡◌, ℕ, zero, suc, ◌+◌, Bool, true, false, not, ◌&&◌, ◌||◌, ◌==◌, List, [], ◌∷◌, ◌++◌, map, Some, None, Option, refl, sym, ap, ◌∙◌, cond, rules, Vec, Box, Global, codes}
-use Rattle.std.specs.Prelude.{slice_index_or, slice_get}
+use Rattle.std.proofs.Common.{◌≡◌, ℕ, zero, suc, Bool, true, false, ◌&&◌, ◌||◌, ◌==◌, List, [], ◌∷◌, ◌++◌, map, refl, sym, ap, ◌∙◌, rules, Vec, Box, Global, codes}
+use Rattle.std.specs.Prelude.{slice_index_or}
 use Rattle.std.specs.List.{flat_map}
 use Rattle.gc_base.specs.Words.{is_word_part}
 use Rattle.gc_expr.specs.declared.expr.Expr.{Expr}
@@ -15,7 +15,7 @@ use Rattle.gc_expr.specs.Trees.{Kind, TreeOf, ExprTree, AnExpr, row, renamed}
 use Rattle.gc_base.specs.declared.place.Sym.{Sym}
 use Rattle.gc_expr.specs.Views.{Names, name_of, numbered_expr, numbered_node, numbered_sum_part, numbered_product_part}
 use Rattle.gc_expr.proofs.Renaming.{renamed_row}
-use Rattle.gc_print_query.specs.Pieces.{Piece, Blank, joined, run_together, last_behind, apart, piece_text, written}
+use Rattle.gc_print_query.specs.Pieces.{Piece, Blank, joined, run_together, last_behind, written}
 use Rattle.gc_print_query.specs.ExpressionPieces.{between, closed, comparison_piece, parts_of, product_piece, sign_piece}
 use Rattle.gc_print_query.specs.QueryPieces.{enclosed}
 use Rattle.gc_print_query.specs.TokenTexts.{spelled}

@@ -1,5 +1,5 @@
 -- The text of a file reads back.
-use Rattle.std.proofs.Common.{◌≡◌, ℕ, zero, suc, ◌+◌, List, [], ◌∷◌, ◌++◌, map, length, Some, refl, sym, ap, subst, ◌∙◌, arith, append_assoc, true}
+use Rattle.std.proofs.Common.{◌≡◌, ℕ, ◌+◌, List, [], ◌∷◌, ◌++◌, map, length, Some, refl, sym, ap, subst, ◌∙◌, arith, append_assoc, true}
 use Rattle.std.specs.List.{flat_map}
 use Rattle.std.specs.Str.{IsUtf8, is_utf8}
 use Rattle.std.proofs.lemmas.List.{append-nil}
@@ -10,18 +10,18 @@ use Rattle.gc_lex.specs.declared.token.Mark.TheVariants as mark
 use Rattle.gc_lex.specs.Lexis.{lexed}
 use Rattle.gc_ast.specs.Trees.{Tree, AStatement}
 use Rattle.gc_grammar.specs.Words.{Point, next}
-use Rattle.gc_grammar.specs.Queries.{SpellsFile, file, statement, within, start}
+use Rattle.gc_grammar.specs.Queries.{SpellsFile, statement, within, start}
 use Rattle.gc_grammar.proofs.Spellings.{spells_mark}
 use Rattle.gc_print.proofs.Lexing.{HasTokens}
-use Rattle.gc_print_query.specs.Pieces.{Piece, Line, joined, written}
+use Rattle.gc_print_query.specs.Pieces.{Piece, Line, joined}
 use Rattle.gc_print_query.specs.ExpressionPieces.{mark_piece}
-use Rattle.gc_print_query.specs.QueryPieces.{pieces_of, statement_pieces, file_pieces, enclosed}
+use Rattle.gc_print_query.specs.QueryPieces.{pieces_of, file_pieces, enclosed}
 use Rattle.gc_print_query.specs.ReadingBack.{ReadsBack}
 use Rattle.gc_print_query.specs.Tokens.{tokens_in, AreWritable}
 use Rattle.gc_print_query.specs.Unnumbered.{unnumbered}
 use Rattle.gc_print_query.specs.WrittenFiles.{file_text}
 use Rattle.gc_print_query.proofs.LexedPieces.{AreSound, spaced, written_spaced, pieces_lex, lexes_spaced}
-use Rattle.gc_print_query.proofs.Rereading.{Listed, listed_own, with_separators, tokens_append, sound_append, front_writable}
+use Rattle.gc_print_query.proofs.Rereading.{listed_own, with_separators, tokens_append, sound_append, front_writable}
 use Rattle.gc_print_query.proofs.TokensRead.{mark_line}
 use Rattle.gc_print_query.proofs.QueriesRead.{all_fine, statement_reads}
 use Rattle.gc_print_query.proofs.Utf8Pieces.{sound_utf8}
@@ -55,12 +55,17 @@ some_again depth p q ts (v ∷ vs) more first is w s =
     let are : file_pieces (v ∷ vs) ≡ ps ++ ending = ended (pieces_of 0) v vs in
     record {
       read = a.value;
-      spells = subst (λ us. SpellsFile us a.value) (sym (ap tokens_in are))
-          (next a.end, (depth, record {
+      spells = subst (λ us. SpellsFile us a.value) (sym (ap tokens_in are)) (
+        next a.end,
+        (
+          depth,
+          record {
             value = (a.value, Some tt);
             spelled = record { early = tokens_in ps; late = Symbol mark.Semicolon ∷ []; between = a.end; whole = tokens_append ps ending; before = a.spelled; behind = spells_mark mark.Semicolon a.end };
             made = refl;
-          }));
+          },
+        ),
+      );
       same = a.same;
       sound = subst AreSound (sym are) (sound_append ps ending a.sound (tt, (tt, tt)));
     }

@@ -1,11 +1,11 @@
 -- The texts of pieces have the tokens of the pieces.
-use Rattle.std.proofs.Common.{◌≡◌, ℕ, zero, suc, ◌+◌, ◌<◌, ◌≤◌, Bool, true, false, not, ◌&&◌, ◌||◌, ◌==◌, List, [], ◌∷◌, ◌++◌, length, take, replicate, refl, sym, ap, subst, ◌∙◌, arith, cond, one-add, length-append, append_assoc, pos, negsuc, map, nat_lt, codes}
+use Rattle.std.proofs.Common.{◌≡◌, ℕ, zero, suc, ◌+◌, Bool, true, false, not, ◌&&◌, ◌||◌, ◌==◌, List, [], ◌∷◌, ◌++◌, length, take, replicate, refl, sym, ap, subst, ◌∙◌, arith, cond, one-add, append_assoc, map, codes}
 use Rattle.std.specs.List.{AllByRecursion, list_all, prefix_len, take_while, join_with_byte}
 use Rattle.std.proofs.lemmas.Bool.{false≢true}
 use Rattle.std.proofs.lemmas.List.{append-nil, take_at}
-use Rattle.gc_base.specs.Words.{is_word, is_word_part}
+use Rattle.gc_base.specs.Words.{is_word_part}
 use Rattle.gc_lex.specs.declared.token.Token.{Token}
-use Rattle.gc_lex.specs.declared.token.Token.TheVariants.{Word, Number, Text, Symbol}
+use Rattle.gc_lex.specs.declared.token.Token.TheVariants.{Symbol}
 use Rattle.gc_lex.specs.declared.token.Mark.TheVariants as mark
 use Rattle.gc_lex.specs.declared.items.Item.TheVariants as item
 use Rattle.gc_lex.specs.Characters.{is_separator}
@@ -20,7 +20,7 @@ use Rattle.gc_print.proofs.LexedTexts.{is_dense}
 use Rattle.gc_print.proofs.LexedExpressions.{expression_lexes}
 use Rattle.gc_print_query.specs.Pieces.{Piece, Blank, Line, Lexeme, Angled, is_opening, run_together, apart, piece_text, last_behind, with_piece, written}
 use Rattle.gc_print_query.specs.Tokens.{tokens_in, IsWritable}
-use Rattle.gc_print_query.specs.TokenTexts.{spelled, mark_text}
+use Rattle.gc_print_query.specs.TokenTexts.{spelled}
 use Rattle.gc_print_query.proofs.LexedTokens.{is_parted, token_lexes, mark_lexes, Front, token_front}
 
 -- ---- a text piece by piece, from its front

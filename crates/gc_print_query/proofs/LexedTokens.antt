@@ -1,6 +1,6 @@
 -- The texts of tokens, lexed.
-use Rattle.std.proofs.Common.{◌≡◌, ℕ, zero, suc, ◌+◌, ◌^◌, ◌<◌, ◌≤◌, Bool, true, false, not, ◌&&◌, ◌||◌, ◌==◌, List, [], ◌∷◌, ◌++◌, length, take, Option, Some, None, pos, negsuc, refl, sym, ap, subst, ◌∙◌, arith, cond, nat_le, nat_eq, one-add, ne_eqb, length-append, append_assoc, codes}
-use Rattle.std.specs.Char.{is_ascii_alphabetic, is_ascii_digit, is_ascii_alphanumeric}
+use Rattle.std.proofs.Common.{◌≡◌, ℕ, suc, ◌+◌, ◌<◌, ◌≤◌, Bool, true, false, not, ◌&&◌, ◌||◌, ◌==◌, List, [], ◌∷◌, ◌++◌, length, take, pos, negsuc, refl, sym, ap, ◌∙◌, arith, cond, nat_le, one-add, ne_eqb, length-append, append_assoc}
+use Rattle.std.specs.Char.{is_ascii_alphabetic, is_ascii_digit}
 use Rattle.std.specs.List.{flat_map, list_all, prefix_len, take_while}
 use Rattle.std.specs.Prelude.{decimal}
 use Rattle.std.specs.Str.{all_ascii_digits}
@@ -16,15 +16,14 @@ use Rattle.gc_lex.specs.declared.token.Token.{Token}
 use Rattle.gc_lex.specs.declared.token.Token.TheVariants.{Word, Number, Text, Symbol}
 use Rattle.gc_lex.specs.declared.token.Mark.{Mark}
 use Rattle.gc_lex.specs.declared.token.Mark.TheVariants as mark
-use Rattle.gc_lex.specs.declared.items.Item.{Item}
 use Rattle.gc_lex.specs.declared.items.Item.TheVariants as item
-use Rattle.gc_lex.specs.Characters.{is_separator, is_hash, is_quote, is_backslash}
+use Rattle.gc_lex.specs.Characters.{is_separator, is_hash}
 use Rattle.gc_lex.specs.Contents.{Body, Closed, body_of, byte_before}
 use Rattle.gc_lex.specs.Items.{first_item, number_item, text_item}
 use Rattle.gc_print.proofs.Lexing.{Lexes, lexes_token}
 use Rattle.gc_print.proofs.LexedTexts.{ends_word, lexes_word}
 use Rattle.gc_print_query.specs.Pieces.{run_together, last_behind}
-use Rattle.gc_print_query.specs.Tokens.{IsWritable, IsNumber}
+use Rattle.gc_print_query.specs.Tokens.{IsWritable}
 use Rattle.gc_print_query.specs.TokenTexts.{mark_text, escaped, quoted, spelled}
 
 -- a byte runs together with nothing that stands behind it

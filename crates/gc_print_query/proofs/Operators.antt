@@ -1,25 +1,24 @@
 -- Expressions with operators, spelled anew.
-use Rattle.std.proofs.Common.{◌≡◌, ℕ, zero, suc, ◌+◌, ◌<◌, ◌≤◌, Bool, true, false, List, [], ◌∷◌, ◌++◌, map, Option, Some, None, refl, sym, ap, subst, ◌∙◌, arith, append_assoc, codes}
+use Rattle.std.proofs.Common.{◌≡◌, ℕ, true, false, List, [], ◌∷◌, ◌++◌, map, Option, Some, None, refl, sym, ap, subst, ◌∙◌, codes}
 use Rattle.std.specs.List.{flat_map}
 use Rattle.gc_lex.specs.declared.token.Token.{Token}
 use Rattle.gc_lex.specs.declared.token.Mark.TheVariants as mark
 use Rattle.gc_expr.specs.declared.expr.Comparison.{Comparison}
 use Rattle.gc_expr.specs.declared.expr.Comparison.TheVariants as compare
-use Rattle.gc_expr.specs.declared.expr.ProductOp.{ProductOp}
 use Rattle.gc_expr.specs.declared.expr.ProductOp.TheVariants.{Times, Divided, Remainder}
 use Rattle.gc_expr.specs.Trees as tree
 use Rattle.gc_expr.specs.Trees.{ExprTree, AnExpr, ANode, ASumPart, AProductPart, Kind, RowOf, At, row}
 use Rattle.gc_grammar.specs.Words as words
 use Rattle.gc_grammar.specs.Words.{Point, Lang, ◌⋅◌, ◌∣◌, ◌⇒◌, ◌▸◌, ◌◂◌, Both, Made, optional, many, separated, as_value}
-use Rattle.gc_grammar.specs.Expressions.{Expr, Inside, Suffix, PropertyOf, LabelOf, prim, post, neg, prod, sum, cmp, not, and, expr, suffix, product_op, product_part, sign, sum_part, comparison, suffixed, prefixed, multiplied, summed, compared, chained}
+use Rattle.gc_grammar.specs.Expressions.{Expr, Suffix, PropertyOf, LabelOf, prim, post, neg, prod, sum, cmp, not, and, suffix, product_op, product_part, sign, sum_part, comparison, suffixed, prefixed, multiplied, summed, compared, chained}
 use Rattle.gc_grammar.specs.Queries.{within}
 use Rattle.gc_print_query.specs.Pieces.{Piece, Blank, joined}
-use Rattle.gc_print_query.specs.ExpressionPieces.{Part, word, mark_piece, between, closed, parts_of, PartsOf, sign_piece, product_piece, comparison_piece}
-use Rattle.gc_print_query.specs.Tokens.{tokens_in, AreWritable}
+use Rattle.gc_print_query.specs.ExpressionPieces.{word, mark_piece, between, closed, parts_of, sign_piece, product_piece, comparison_piece}
+use Rattle.gc_print_query.specs.Tokens.{AreWritable}
 use Rattle.gc_print_query.specs.Unnumbered.{unnumbered_expr}
 use Rattle.gc_print_query.proofs.Rereading.{Read, Reads, made, both, past, either, any_times, with_separators, flat_map_map, a_word, front_writable, back_writable}
 use Rattle.gc_print_query.proofs.TokensRead.{lone_mark, spaced_mark, spaced_word, word_blank}
-use Rattle.gc_print_query.proofs.ExpressionLevels.{level, Fine, FineRead, operand, operated, carried, behind_none, before_none}
+use Rattle.gc_print_query.proofs.ExpressionLevels.{Fine, FineRead, operand, operated, carried, behind_none, before_none}
 
 -- ---- rows
 

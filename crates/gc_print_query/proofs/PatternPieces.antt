@@ -1,5 +1,5 @@
 -- The pieces of patterns, which are the same at each depth of lines.
-use Rattle.std.proofs.Common.{◌≡◌, ℕ, List, [], ◌∷◌, ◌++◌, map, refl, sym, ap, ◌∙◌, codes}
+use Rattle.std.proofs.Common.{◌≡◌, ℕ, List, [], ◌∷◌, ◌++◌, map, refl, ap, ◌∙◌, codes}
 use Rattle.std.specs.List.{flat_map}
 use Rattle.gc_ast.specs.Trees as tree
 use Rattle.gc_ast.specs.Trees.{Kind, RowOf, Tree, AnElement, APropertyUse, APattern, APathBody, ALocated, none, more, row, rows}

@@ -1,15 +1,14 @@
 -- Patterns, spelled anew.
-use Rattle.std.proofs.Common.{◌≡◌, ℕ, ℤ, zero, suc, ◌+◌, true, List, [], ◌∷◌, ◌++◌, map, Option, Some, None, refl, sym, ap, subst, ◌∙◌, append_assoc, codes}
-use Rattle.std.specs.List.{AllByRecursion, flat_map}
+use Rattle.std.proofs.Common.{◌≡◌, ℕ, true, List, [], ◌∷◌, ◌++◌, map, Option, Some, None, refl, sym, ap, subst, ◌∙◌, append_assoc, codes}
+use Rattle.std.specs.List.{flat_map}
 use Rattle.std.specs.Option.{option_map}
 use Rattle.std.proofs.lemmas.List.{append-nil}
 use Rattle.gc_base.specs.Words.{is_word}
 use Rattle.gc_base.specs.declared.place.Direction.{Direction}
-use Rattle.gc_base.specs.declared.place.Direction.TheVariants.{Forward, Backward, Either}
+use Rattle.gc_base.specs.declared.place.Direction.TheVariants.{Backward}
 use Rattle.gc_lex.specs.declared.token.Token.{Token}
 use Rattle.gc_lex.specs.declared.token.Token.TheVariants.{Word, Number, Text, Symbol}
 use Rattle.gc_lex.specs.declared.token.Mark.TheVariants as mark
-use Rattle.gc_regx.specs.Trees.{RegexTree, ARegex}
 use Rattle.gc_regx.specs.Expressions.{IsExpression}
 use Rattle.gc_ast.specs.declared.pattern.CountAt.{CountAt}
 use Rattle.gc_ast.specs.Trees as tree
@@ -19,21 +18,19 @@ use Rattle.gc_grammar.specs.Words.{Point, Lang, next, this, that, ◌⋅◌, ◌
 use Rattle.gc_grammar.specs.Regexes.{Expression, regex}
 use Rattle.gc_grammar.specs.Patterns as pattern
 use Rattle.gc_grammar.specs.Patterns.{Unplaced, placed, listed, arrow, edge_of, angled, in_turn, linked}
-use Rattle.gc_grammar.specs.Queries.{SpellsRegex, start}
+use Rattle.gc_grammar.specs.Queries.{start}
 use Rattle.gc_grammar.proofs.Spellings.{spells_mark}
 use Rattle.gc_print.specs.RegexTokens.{tokens_of}
-use Rattle.gc_print.specs.WrittenTokens.{IsWritten, AreWritten}
+use Rattle.gc_print.specs.WrittenTokens.{AreWritten}
 use Rattle.gc_print.proofs.GrammarGives.{regex_gives}
 use Rattle.gc_print.proofs.SpelledExpressions.{tokens_spell}
-use Rattle.gc_print_query.specs.Pieces.{Piece, Blank, Line, Lexeme, Angled, joined}
+use Rattle.gc_print_query.specs.Pieces.{Piece, Blank, Lexeme, Angled, joined}
 use Rattle.gc_print_query.specs.ExpressionPieces.{word, mark_piece, parenthesized}
-use Rattle.gc_print_query.specs.QueryPieces as pieces
 use Rattle.gc_print_query.specs.QueryPieces.{pieces_of, PiecesOf, name_if, label_group, braced, edge, path, count_if, named_if}
-use Rattle.gc_print_query.specs.Tokens.{tokens_in, IsWritable, AreWritable}
+use Rattle.gc_print_query.specs.Tokens.{AreWritable}
 use Rattle.gc_print_query.specs.Unnumbered.{unnumbered, unnumbered_name, unnumbered_count}
-use Rattle.gc_print_query.proofs.LexedPieces.{AreSound}
-use Rattle.gc_print_query.proofs.Rereading.{Grows, grows_none, Listed, SameExists, Again, Read, Reads, converted, made, rewritten, restated, both, past, before, either, at_most_once, if_some, any_times, with_separators, nothing_read, a_word, a_name, a_number, front_writable, back_writable, flat_map_map}
-use Rattle.gc_print_query.proofs.TokensRead.{lone_mark, spaced_mark, mark_blank, blank_mark, lone_word, word_blank, spaced_word}
+use Rattle.gc_print_query.proofs.Rereading.{Grows, grows_none, Read, Reads, converted, made, rewritten, restated, both, past, before, either, at_most_once, if_some, any_times, with_separators, nothing_read, a_word, a_name, a_number, front_writable, back_writable}
+use Rattle.gc_print_query.proofs.TokensRead.{lone_mark, spaced_mark, mark_blank, blank_mark, word_blank, spaced_word}
 use Rattle.gc_print_query.proofs.Primaries.{parenthesized_reads}
 use Rattle.gc_print_query.proofs.Relocated.{Moved, regex_moves, regex_shows, unnumbered_regex, views_in}
 

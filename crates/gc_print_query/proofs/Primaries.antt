@@ -1,5 +1,5 @@
 -- Primaries, spelled anew; and from them expressions, brackets by brackets.
-use Rattle.std.proofs.Common.{◌≡◌, ℕ, ℤ, zero, suc, ◌+◌, ◌<◌, ◌≤◌, Bool, true, false, List, [], ◌∷◌, ◌++◌, map, length, Option, Some, None, refl, sym, ap, subst, ◌∙◌, arith, append_assoc, codes}
+use Rattle.std.proofs.Common.{◌≡◌, ℕ, suc, ◌+◌, ◌≤◌, true, false, List, [], ◌∷◌, ◌++◌, map, length, Some, None, refl, sym, ap, subst, ◌∙◌, arith, codes}
 use Rattle.std.specs.Prelude.{slice_index_or, slice_get}
 use Rattle.std.proofs.lemmas.List.{append-nil}
 use Rattle.gc_lex.specs.declared.token.Token.{Token}
@@ -12,17 +12,16 @@ use Rattle.gc_expr.specs.Trees.{ExprTree, AnExpr, ANode, At, maybe}
 use Rattle.gc_ast.specs.Trees.{Tree, AQuery, Named}
 use Rattle.gc_grammar.specs.Words as words
 use Rattle.gc_grammar.specs.Words.{Point, Lang, next, this, that, ◌⋅◌, ◌∣◌, ◌⇒◌, ◌▸◌, ◌◂◌, Made, Numbered, numbered, as_value, number, text}
-use Rattle.gc_grammar.specs.Expressions.{Expr, Inside, in_parentheses, indexed, folding, prim}
+use Rattle.gc_grammar.specs.Expressions.{Expr, in_parentheses, indexed, folding, prim}
 use Rattle.gc_grammar.specs.Queries.{within, query}
-use Rattle.gc_grammar.proofs.Spellings.{spells_inside, spells_mark}
-use Rattle.gc_grammar.proofs.Chains.{spells_the_word}
-use Rattle.gc_print_query.specs.Pieces.{Piece, Blank, Line, Lexeme}
-use Rattle.gc_print_query.specs.ExpressionPieces.{Part, word, mark_piece, parenthesized, closed, parts_of, fold_word}
+use Rattle.gc_grammar.proofs.Spellings.{spells_inside}
+use Rattle.gc_print_query.specs.Pieces.{Piece, Line}
+use Rattle.gc_print_query.specs.ExpressionPieces.{word, mark_piece, parenthesized, closed, parts_of, fold_word}
 use Rattle.gc_print_query.specs.QueryPieces.{pieces_of, enclosed}
 use Rattle.gc_print_query.specs.Tokens.{tokens_in, AreWritable}
-use Rattle.gc_print_query.specs.Unnumbered.{unnumbered, unnumbered_expr, unnumbered_name}
+use Rattle.gc_print_query.specs.Unnumbered.{unnumbered, unnumbered_expr}
 use Rattle.gc_print_query.proofs.LexedPieces.{AreSound}
-use Rattle.gc_print_query.proofs.Rereading.{Grows, Listed, listed_own, SameExists, Again, Read, Reads, converted, made, both, past, before, either, rewritten, deeper, a_word, a_name, a_number, a_text, tokens_append, sound_append, front_writable, back_writable}
+use Rattle.gc_print_query.proofs.Rereading.{Grows, Listed, listed_own, SameExists, Again, Reads, converted, made, both, past, before, either, rewritten, deeper, a_name, a_number, a_text, tokens_append, sound_append, front_writable, back_writable}
 use Rattle.gc_print_query.proofs.TokensRead.{lone_mark, lone_word, word_blank}
 use Rattle.gc_print_query.proofs.ExpressionLevels.{level, Fine, FineRead, operand, fresh, turned, closed_within, closed_over, Compared, Within, Over, compare, loosened_to}
 use Rattle.gc_print_query.proofs.Operators.{post_fine, neg_fine, prod_fine, sum_fine, cmp_fine, not_fine, and_fine, expr_fine}

@@ -1,9 +1,6 @@
 -- Queries, spelled anew.
-use Rattle.std.proofs.Common.{◌≡◌, ℕ, ℤ, zero, suc, ◌+◌, ◌≤◌, true, List, [], ◌∷◌, ◌++◌, map, Option, Some, None, refl, sym, ap, subst, ◌∙◌, arith, append_assoc, codes}
+use Rattle.std.proofs.Common.{◌≡◌, ℕ, zero, suc, ◌+◌, ◌≤◌, List, [], ◌∷◌, ◌++◌, map, Option, refl, sym, ap, subst, ◌∙◌, arith, append_assoc, codes}
 use Rattle.std.specs.List.{flat_map}
-use Rattle.std.specs.Option.{option_map}
-use Rattle.std.proofs.lemmas.List.{append-nil}
-use Rattle.gc_base.specs.Words.{is_word}
 use Rattle.gc_lex.specs.declared.token.Token.{Token}
 use Rattle.gc_lex.specs.declared.token.Mark.TheVariants as mark
 use Rattle.gc_ast.specs.declared.query.SetOp.{SetOp}
@@ -12,22 +9,19 @@ use Rattle.gc_ast.specs.Trees as tree
 use Rattle.gc_ast.specs.Trees.{Kind, RowOf, Tree, AStatement, AQuery, ANextTerm, ATerm, AHead, ABasic, ABlock, AnOptional, AFormula, AnItem, APattern, ALocated, Named, row, rows, maybe, Query, QueryTerm, BasicTerm, GraphTerm, none, more}
 use Rattle.gc_grammar.specs.Words as words
 use Rattle.gc_grammar.specs.Words.{Point, Lang, this, that, ◌⋅◌, ◌∣◌, ◌⇒◌, ◌▸◌, ◌◂◌, optional, many, separated}
-use Rattle.gc_grammar.specs.Expressions.{Inside, formula, in_parentheses}
-use Rattle.gc_grammar.specs.Patterns.{vchain, located}
-use Rattle.gc_grammar.specs.Constructs.{item}
+use Rattle.gc_grammar.specs.Expressions.{in_parentheses}
 use Rattle.gc_grammar.specs.Queries as grammar
 use Rattle.gc_grammar.specs.Queries.{within, as_term, as_query, term, query}
-use Rattle.gc_print_query.specs.Pieces.{Piece, Blank, Line, joined}
+use Rattle.gc_print_query.specs.Pieces.{Piece, Blank, Line}
 use Rattle.gc_print_query.specs.ExpressionPieces.{word, mark_piece}
 use Rattle.gc_print_query.specs.QueryPieces.{pieces_of, lined, clause, enclosed, named_query, op_word}
-use Rattle.gc_print_query.specs.Tokens.{tokens_in, AreWritable}
+use Rattle.gc_print_query.specs.Tokens.{AreWritable}
 use Rattle.gc_print_query.specs.Unnumbered.{unnumbered, unnumbered_name}
-use Rattle.gc_print_query.proofs.LexedPieces.{AreSound}
-use Rattle.gc_print_query.proofs.Rereading.{Grows, Listed, SameExists, Again, Read, Reads, converted, made, rewritten, both, past, before, either, at_most_once, any_times, with_separators, a_name, deeper, shifted, followed, tokens_append, sound_append, front_writable, back_writable}
-use Rattle.gc_print_query.proofs.TokensRead.{lone_mark, spaced_mark, mark_line, line_mark, word_blank, spaced_word, line_word}
+use Rattle.gc_print_query.proofs.Rereading.{Listed, SameExists, Again, Read, Reads, converted, made, rewritten, both, past, before, either, any_times, with_separators, a_name, deeper, shifted, followed, front_writable, back_writable}
+use Rattle.gc_print_query.proofs.TokensRead.{spaced_mark, mark_line, line_mark, word_blank, spaced_word, line_word}
 use Rattle.gc_print_query.proofs.Primaries.{InsideFine, inside_none, inside_deeper}
 use Rattle.gc_print_query.proofs.PatternsRead.{row_pieces, row_unnumbered, row_flat, vchain_reads, located_reads}
-use Rattle.gc_print_query.proofs.ConstructsRead.{formula_reads, clause_reads, maybe_unnumbered, item_reads}
+use Rattle.gc_print_query.proofs.ConstructsRead.{clause_reads, maybe_unnumbered, item_reads}
 
 -- ---- blocks
 
@@ -54,8 +48,8 @@ module _ {n D : ℕ} (inside : InsideFine n D) where
       made (λ m (v : List (Tree AnItem) × (Tree ABlock × List (Tree AnOptional))). tree.Basic m (row v.0) v.1.0 (row v.1.1)) (λ x v. pieces_of n v) unnumbered
       (λ (v : List (Tree AnItem) × (Tree ABlock × List (Tree AnOptional))). tree.Basic 0 (row v.0) v.1.0 (row v.1.1))
       (λ x m v. λ i. word (codes "CONSTRUCT") ∷ Blank
-          ∷ (lined (n + 1) (row_pieces n v.0 i)
-          ++ Line n ∷ word (codes "MATCH") ∷ Blank ∷ (pieces_of n v.1.0 ++ row_flat n (λ optional. Line n ∷ optional) v.1.1 i)))
+      ∷ (lined (n + 1) (row_pieces n v.0 i)
+      ++ Line n ∷ word (codes "MATCH") ∷ Blank ∷ (pieces_of n v.1.0 ++ row_flat n (λ optional. Line n ∷ optional) v.1.1 i)))
       (λ m v. λ i. tree.Basic 0 (row_unnumbered v.0 i) (unnumbered v.1.0) (row_unnumbered v.1.1 i))
       (both (past (word_blank (codes "CONSTRUCT") refl) (with_separators (item_reads inside) (mark_line mark.Comma (n + 1))))
       (both (past (line_word n (codes "MATCH") refl) block_reads) (any_times optional_reads)))
@@ -203,7 +197,7 @@ module _ {D : ℕ} (inside : (n : ℕ) → InsideFine n D) (queries : InsideQuer
       made (λ m (v : Named × (List (List (Tree APattern)) × (Tree (RowOf AFormula) × Option (Tree AFormula)))). tree.PathHead v.0 (rows v.1.0) v.1.1.0 (maybe v.1.1.1)) (λ x v. pieces_of n v) unnumbered
       (λ (v : Named × (List (List (Tree APattern)) × (Tree (RowOf AFormula) × Option (Tree AFormula)))). tree.PathHead v.0 (rows v.1.0) v.1.1.0 (maybe v.1.1.1))
       (λ x m v. ap (λ lists. word (codes "PATH") ∷ Blank ∷ word v.0.name ∷ Blank ∷ mark_piece mark.Equals ∷ Blank
-          ∷ (lined (n + 1) lists ++ (clause (n + 1) (codes "WHERE") (pieces_of n v.1.1.0) ++ (clause (n + 1) (codes "COST") (pieces_of n (maybe v.1.1.1)) ++ Line n ∷ [])))) (rows_flat n v.1.0))
+      ∷ (lined (n + 1) lists ++ (clause (n + 1) (codes "WHERE") (pieces_of n v.1.1.0) ++ (clause (n + 1) (codes "COST") (pieces_of n (maybe v.1.1.1)) ++ Line n ∷ [])))) (rows_flat n v.1.0))
       (λ m v. λ i. tree.PathHead (unnumbered_name v.0) (rows_unnumbered v.1.0 i) (unnumbered v.1.1.0) (maybe_unnumbered v.1.1.1 i))
       (both (past (word_blank (codes "PATH") refl) a_name)
       (both (past (spaced_mark mark.Equals) (with_separators vchain_reads (mark_line mark.Comma (n + 1))))
@@ -306,8 +300,7 @@ pub all_fine : (D : ℕ) → ((n : ℕ) → InsideFine n D) × InsideQueries D
 all_fine zero = (λ n. inside_none (none_reads (n + 1)), record { fine = λ p q ts v w s. absurd s; reads = none_reads })
 all_fine (suc D) =
     let below = all_fine D in
-    let reads : (n : ℕ) → Reads n (suc D) (λ d. (within d).query) (λ x v. pieces_of n v) unnumbered = λ n. deeper (λ d. (within d).query) (query_reads below.0 below.1 n) in
-    (
+    let reads : (n : ℕ) → Reads n (suc D) (λ d. (within d).query) (λ x v. pieces_of n v) unnumbered = λ n. deeper (λ d. (within d).query) (query_reads below.0 below.1 n) in (
       λ n. inside_deeper (below.0 n) (reads (n + 1)),
       record {
         fine = λ p q ts v w s. fine_moved D (suc D) p q p q v (omega arith) refl refl (query_fine below.0 below.1 p q ts v w s);

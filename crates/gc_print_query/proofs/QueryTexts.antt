@@ -1,5 +1,5 @@
 -- The pieces of queries and their parts, list by list.
-use Rattle.std.proofs.Common.{◌≡◌, ℕ, ◌+◌, List, [], ◌∷◌, ◌++◌, map, Option, Some, None, refl, sym, ap, ◌∙◌, rules, Vec, Global, codes}
+use Rattle.std.proofs.Common.{◌≡◌, ℕ, ◌+◌, List, [], ◌∷◌, ◌++◌, map, Option, refl, ap, ◌∙◌, rules, Vec, Global, codes}
 use Rattle.std.specs.List.{flat_map}
 use Rattle.std.specs.Option.{option_map}
 use Rattle.gc_base.specs.declared.place.NameAt.{NameAt}
@@ -22,9 +22,9 @@ use Rattle.gc_ast.specs.Trees as tree
 use Rattle.gc_ast.specs.Trees.{Kind, Tree, RowOf, APattern, ALocated, row, rows, maybe}
 use Rattle.gc_ast.specs.PatternViews.{named, named_if, pattern_tree, located_tree, group_term_tree}
 use Rattle.gc_ast.specs.QueryViews.{query_by, head_by, term_by, next_term_by, basic_by, item_by, block_by, optional_by, formula_by, part_by, change_by, new_element_by, assign_by, query_tree, head_tree, term_tree, next_term_tree, basic_tree, item_tree, block_tree, optional_tree, formula_tree, part_tree, change_tree, new_element_tree, assign_tree}
-use Rattle.gc_print_query.specs.Pieces.{Piece, Blank, Line, joined}
+use Rattle.gc_print_query.specs.Pieces.{Piece, Blank, Line}
 use Rattle.gc_print_query.specs.ExpressionPieces.{word, mark_piece, parts_of}
-use Rattle.gc_print_query.specs.QueryPieces.{pieces_of, PiecesOf, lined, clause, enclosed, name_if, copy_if, grouped, label, braced, path}
+use Rattle.gc_print_query.specs.QueryPieces.{pieces_of, lined, clause, enclosed, name_if, copy_if, grouped, label, braced, path}
 use Rattle.gc_print_query.proofs.PatternPieces.{list_pieces, flat_pieces, located_same, chains_same}
 
 -- ---- queries
@@ -55,7 +55,7 @@ unfolding pieces_of
 basic_pieces n names b =
     ap (pieces_of n) (basic_of names b)
     ∙ (λ i. word (codes "CONSTRUCT") ∷ Blank ∷ (lined (n + 1) (list_pieces n (item_tree names) (out-Basic b).items.items i)
-        ++ Line n ∷ word (codes "MATCH") ∷ Blank ∷ (pieces_of n (block_tree names (out-Basic b).main) ++ flat_pieces n (optional_tree names) (λ o. Line n ∷ o) (out-Basic b).optionals.items i)))
+    ++ Line n ∷ word (codes "MATCH") ∷ Blank ∷ (pieces_of n (block_tree names (out-Basic b).main) ++ flat_pieces n (optional_tree names) (λ o. Line n ∷ o) (out-Basic b).optionals.items i)))
 
 block_of : (names : Names) (b : MatchBlock)
     → block_tree names b ≡ tree.Block (row (map (located_tree names) (out-MatchBlock b).patterns)) (maybe (option_map (formula_tree names) (out-MatchBlock b).filter))
@@ -128,8 +128,8 @@ unfolding pieces_of
 path_pieces n names name chains filter cost =
     ap (pieces_of n) (path_of names name chains filter cost)
     ∙ ap (λ lists. word (codes "PATH") ∷ Blank ∷ word (name_of names name.sym) ∷ Blank ∷ mark_piece mark.Equals ∷ Blank
-        ∷ (lined (n + 1) lists ++ (clause (n + 1) (codes "WHERE") (pieces_of n (maybe (option_map (formula_tree names) filter)))
-        ++ (clause (n + 1) (codes "COST") (pieces_of n (maybe (option_map (formula_tree names) cost))) ++ Line n ∷ [])))) (chains_pieces n names chains)
+    ∷ (lined (n + 1) lists ++ (clause (n + 1) (codes "WHERE") (pieces_of n (maybe (option_map (formula_tree names) filter)))
+    ++ (clause (n + 1) (codes "COST") (pieces_of n (maybe (option_map (formula_tree names) cost))) ++ Line n ∷ [])))) (chains_pieces n names chains)
 
 chain_of : (names : Names) (parts : Vec ConstructPart Global) (changes : Vec Change Global) (condition : Option Formula)
     → item_tree names (Chain parts changes condition)
@@ -145,7 +145,7 @@ unfolding pieces_of
 chain_pieces n names parts changes condition =
     ap (pieces_of n) (chain_of names parts changes condition)
     ∙ (λ i. flat_pieces n (part_tree names) (λ p. p) parts.items i
-        ++ (flat_pieces n (change_tree names) (λ c. Line (n + 1) ∷ c) changes.items i ++ clause (n + 1) (codes "WHEN") (pieces_of n (maybe (option_map (formula_tree names) condition)))))
+    ++ (flat_pieces n (change_tree names) (λ c. Line (n + 1) ∷ c) changes.items i ++ clause (n + 1) (codes "WHEN") (pieces_of n (maybe (option_map (formula_tree names) condition)))))
 
 stored_of : (names : Names) (token : ℕ) (name : NameAt) (labels : List (List ℕ)) (assigns : Vec Assign Global)
     → part_tree names (Stored token name labels assigns) ≡ tree.NewStored token (named names name) labels (row (map (assign_tree names) assigns.items))
@@ -180,7 +180,7 @@ unfolding pieces_of
 element_pieces n names e =
     ap (pieces_of n) (element_of names e)
     ∙ (λ i. name_if (named_if names (out-NewElement e).name) ++ (copy_if (named_if names (out-NewElement e).copy) ++ (grouped ((list_pieces n (group_term_tree names) (out-NewElement e).group ∙ group_same n names (out-NewElement e).group) i)
-        ++ (flat_map label (out-NewElement e).labels ++ braced (list_pieces n (assign_tree names) (out-NewElement e).assigns.items i)))))
+    ++ (flat_map label (out-NewElement e).labels ++ braced (list_pieces n (assign_tree names) (out-NewElement e).assigns.items i)))))
 
 optional_of : (names : Names) (o : OptionalBlock) → optional_tree names o ≡ tree.Optional (out-OptionalBlock o).token (block_tree names (out-OptionalBlock o).block)
 unfolding optional_by block_by

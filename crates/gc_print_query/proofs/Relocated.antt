@@ -1,12 +1,11 @@
 -- Regular path expressions, spelled anew elsewhere by the same tokens; and the views in them.
 use Rattle.std.proofs.Common.{◌≡◌, ℕ, zero, suc, List, [], ◌∷◌, ◌++◌, map, Option, Some, None, refl, sym, ap, subst, ◌∙◌}
-use Rattle.std.specs.List.{flat_map}
 use Rattle.gc_lex.specs.declared.token.Token.{Token}
 use Rattle.gc_lex.specs.declared.token.Mark.{Mark}
 use Rattle.gc_lex.specs.declared.token.Mark.TheVariants as mark
 use Rattle.gc_regx.specs.Trees as tree
 use Rattle.gc_regx.specs.Trees.{RegexTree, ARegex, ARow, Kind, row}
-use Rattle.gc_ast.specs.Trees.{Named, Tree, AQuery}
+use Rattle.gc_ast.specs.Trees.{Named}
 use Rattle.gc_grammar.specs.Words as words
 use Rattle.gc_grammar.specs.Words.{Point, Lang, next, this, that, One, Both, Made, ◌⋅◌, ◌∣◌, ◌⇒◌, ◌▸◌, ◌◂◌, optional, many, several, separated}
 use Rattle.gc_grammar.specs.Regexes.{Expression, plain, label, any, test, view, group, atom, star, cat, alt, regex_within, regex, chained, turned, starred, views_of}

@@ -1,10 +1,9 @@
 -- Languages whose values are spelled anew by their pieces.
-use Rattle.std.proofs.Common.{◌≡◌, ℕ, ℤ, zero, suc, ◌+◌, ◌<◌, ◌≤◌, List, [], ◌∷◌, ◌++◌, map, length, Option, Some, None, refl, sym, ap, subst, ◌∙◌, arith, append_assoc}
+use Rattle.std.proofs.Common.{◌≡◌, ℕ, zero, suc, ◌+◌, ◌≤◌, List, [], ◌∷◌, ◌++◌, map, Option, Some, None, refl, sym, ap, subst, ◌∙◌, arith, append_assoc}
 use Rattle.std.specs.Prelude.{slice_index_or, slice_get}
-use Rattle.std.specs.List.{AllByRecursion, flat_map}
+use Rattle.std.specs.List.{flat_map}
 use Rattle.std.specs.Option.{option_map}
 use Rattle.std.proofs.lemmas.List.{append-nil}
-use Rattle.gc_base.specs.Words.{is_word}
 use Rattle.gc_lex.specs.declared.token.Token.{Token}
 use Rattle.gc_lex.specs.declared.token.Token.TheVariants.{Word, Number, Text, Symbol}
 use Rattle.gc_lex.specs.declared.token.Mark.{Mark}
@@ -14,11 +13,11 @@ use Rattle.gc_grammar.specs.Words as words
 use Rattle.gc_grammar.specs.Words.{Point, Lang, next, IsName, this, that, One, Both, Made, ◌⋅◌, ◌∣◌, ◌⇒◌, ◌▸◌, ◌◂◌, optional, many, separated}
 use Rattle.gc_print.specs.RegexTokens.{tokens_of}
 use Rattle.gc_print_query.specs.Pieces.{Piece, Blank, Line, Lexeme, Angled, joined}
-use Rattle.gc_print_query.specs.ExpressionPieces.{word, mark_piece}
+use Rattle.gc_print_query.specs.ExpressionPieces.{word}
 use Rattle.gc_print_query.specs.QueryPieces.{pieces_of, enclosed}
 use Rattle.gc_print_query.specs.Tokens.{tokens_in, IsWritable, AreWritable}
 use Rattle.gc_print_query.specs.Unnumbered.{unnumbered, unnumbered_name}
-use Rattle.gc_print_query.proofs.LexedPieces.{IsSound, AreSound}
+use Rattle.gc_print_query.proofs.LexedPieces.{AreSound}
 
 -- ---- lists
 

@@ -1,9 +1,9 @@
 -- Symbols and words that stand for themselves, with the white space that is around them.
-use Rattle.std.proofs.Common.{◌≡◌, ℕ, true, List, [], ◌∷◌, ◌++◌, refl, sym}
+use Rattle.std.proofs.Common.{◌≡◌, ℕ, true, List, [], ◌∷◌, refl}
 use Rattle.gc_base.specs.Words.{is_word}
 use Rattle.gc_lex.specs.declared.token.Mark.{Mark}
 use Rattle.gc_grammar.specs.Words as words
-use Rattle.gc_print_query.specs.Pieces.{Piece, Blank, Line}
+use Rattle.gc_print_query.specs.Pieces.{Blank, Line}
 use Rattle.gc_print_query.specs.ExpressionPieces.{word, mark_piece, between}
 use Rattle.gc_print_query.proofs.Rereading.{Reads, marked, the_word}
 

@@ -1,13 +1,13 @@
 -- The texts of pieces are UTF-8.
-use Rattle.std.proofs.Common.{◌≡◌, ℕ, zero, suc, ◌+◌, ◌<◌, ◌≤◌, Bool, true, false, ◌==◌, List, [], ◌∷◌, ◌++◌, length, replicate, refl, sym, ap, subst, ◌∙◌, arith, cond, pos, negsuc}
+use Rattle.std.proofs.Common.{◌≡◌, ℕ, zero, suc, ◌+◌, ◌<◌, ◌≤◌, Bool, true, false, List, [], ◌∷◌, ◌++◌, length, replicate, refl, sym, ap, subst, ◌∙◌, arith, cond, pos, negsuc}
 use Rattle.std.proofs.Common.{◌&&◌, nat_lt, get_or, inl, inr, ap₂, append_assoc, append-nil, ltb-true, ne_eqb}
 use Rattle.std.proofs.lemmas.Bool.{and_parts, cases_lt, cases_eq}
 use lib.Utf8.{scalar, scalars, encode, encodes}
 use Rattle.std.specs.List.{flat_map}
-use Rattle.std.specs.Str.{IsUtf8, IsAscii, is_utf8}
+use Rattle.std.specs.Str.{IsUtf8}
 use Rattle.std.specs.Prelude.{decimal}
 use Rattle.std.proofs.lemmas.Fmt.{IsAscii-decimal}
-use Rattle.std.proofs.lemmas.Str.{IsAscii-append, IsUtf8-from_ascii, IsUtf8-append, IsUtf8-from_is_utf8, IsUtf8-nil, IsUtf8-encode, encode_ascii, inside_one}
+use Rattle.std.proofs.lemmas.Str.{IsUtf8-from_ascii, IsUtf8-append, IsUtf8-from_is_utf8, IsUtf8-nil, IsUtf8-encode, encode_ascii, inside_one}
 use Rattle.std.proofs.lemmas.Str.Ascii.{IsAscii-nil, IsAscii-cons}
 use Rattle.gc_base.proofs.WordLaws.{word_ascii}
 use Rattle.gc_lex.specs.declared.token.Token.{Token}
@@ -18,7 +18,7 @@ use Rattle.gc_print.specs.RegexTexts.{regex_text}
 use Rattle.gc_print.proofs.AsciiTexts.{text_utf8}
 use Rattle.gc_print_query.specs.Pieces.{Piece, Blank, Line, Lexeme, Angled, is_opening, run_together, apart, piece_text, last_behind}
 use Rattle.gc_print_query.specs.Tokens.{IsWritable}
-use Rattle.gc_print_query.specs.TokenTexts.{mark_text, escaped, quoted, spelled}
+use Rattle.gc_print_query.specs.TokenTexts.{mark_text, escaped, spelled}
 use Rattle.gc_print_query.proofs.LexedPieces.{IsSound, AreSound, spaced}
 
 one_utf8 : (c : ℕ) → c < 128 → IsUtf8 (c ∷ [])

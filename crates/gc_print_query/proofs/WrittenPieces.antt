@@ -1,5 +1,5 @@
 -- Texts written piece by piece.
-use Rattle.std.proofs.Common.{◌≡◌, ℕ, zero, suc, ◌+◌, ◌-◌, ◌<◌, Bool, true, false, List, [], ◌∷◌, ◌++◌, length, get_or, replicate, refl, sym, ap, ◌∙◌, arith, cond, codes, append_assoc, map, drop, take, add-one}
+use Rattle.std.proofs.Common.{◌≡◌, ℕ, zero, suc, ◌+◌, ◌<◌, List, [], ◌∷◌, ◌++◌, length, get_or, refl, sym, ap, ◌∙◌, arith, codes, append_assoc, map, drop, take, add-one}
 use Rattle.std.specs.List.{flat_map}
 use Rattle.std.proofs.Common.{Result, Ok, Err}
 use Rattle.std.specs.Prelude.{OnOk}
@@ -8,7 +8,7 @@ use Rattle.std.proofs.Math.Seq.{drop-cons}
 use Rattle.gc_lex.specs.declared.token.Mark.TheVariants as mark
 use Rattle.gc_print_query.specs.ExpressionPieces.{word, mark_piece}
 use Rattle.gc_print_query.specs.QueryPieces.{braced, listed, grouped}
-use Rattle.gc_print_query.specs.Pieces.{Piece, Blank, Line, Lexeme, last_behind, run_together, apart, piece_text, with_piece, written, joined, before_list}
+use Rattle.gc_print_query.specs.Pieces.{Piece, Blank, last_behind, with_piece, written, joined, before_list}
 
 pub written_append : (text : List ℕ) (xs ys : List Piece) → written text (xs ++ ys) ≡ written (written text xs) ys
 written_append text [] ys = refl

@@ -1,5 +1,5 @@
 -- The queries of EXISTS, whose texts are written already.
-use Rattle.std.specs.Prelude.{◌≡◌, ℕ, ◌+◌, List, [], map}
+use Rattle.std.specs.Prelude.{◌≡◌, ◌+◌, List, [], map}
 use Rattle.gc_ast.specs.QueryViews.{query_tree}
 use Rattle.gc_print_query.specs.declared.expressions.Asked.{Asked}
 use Rattle.gc_print_query.specs.Pieces.{Piece, written}

@@ -1,5 +1,5 @@
 -- The tokens of pieces, and which tokens can be written.
-use Rattle.std.specs.Prelude.{◌≡◌, ℕ, ℤ, pos, negsuc, ◌≤◌, true, List, [], ◌∷◌, ◌++◌, ⊤, IsUtf8}
+use Rattle.std.specs.Prelude.{◌≡◌, ℤ, pos, negsuc, ◌≤◌, true, List, [], ◌∷◌, ◌++◌, ⊤, IsUtf8}
 use Rattle.std.specs.List.{AllByRecursion}
 use Rattle.gc_base.specs.Words.{is_word}
 use Rattle.gc_lex.specs.declared.token.Token.{Token}

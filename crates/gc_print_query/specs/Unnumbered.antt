@@ -1,5 +1,5 @@
 -- Trees without the numbers of their tokens: each number is 0.
-use Rattle.std.specs.Prelude.{ℕ, List, map, Option}
+use Rattle.std.specs.Prelude.{map}
 use Rattle.std.specs.Option.{option_map}
 use Rattle.gc_expr.specs.Trees as expr
 use Rattle.gc_expr.specs.Trees.{ExprTree}

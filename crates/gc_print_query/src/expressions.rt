@@ -59,12 +59,7 @@ pub(crate) fn write_expr(text: &mut Vec<u8>, asked: &Asked<'_>, expr: &Expr) -> 
 #[tactic(auto, unfolding(gc_expr::specs::Views::numbered_expr, gc_expr::specs::Views::numbered_node, gc_expr::specs::Trees::renamed, crate::specs::ExpressionPieces::parts_of))]
 #[cycle(expressions)]
 // An operand, in parentheses where it is looser than allowed.
-fn write_closed(
-    text: &mut Vec<u8>,
-    asked: &Asked<'_>,
-    expr: &Expr,
-    most: u8,
-) -> Result<(), Memory>
+fn write_closed(text: &mut Vec<u8>, asked: &Asked<'_>, expr: &Expr, most: u8) -> Result<(), Memory>
     requires { HasTexts asked.now }
     ensures { OnOk result (text.new.items ≡ written text.old.items (closed most (parts_of (asked_pieces asked.now) (renamed (name_of asked.now.names.now) (numbered_expr expr.now))))) }
 {
@@ -260,11 +255,7 @@ fn write_comparison(text: &mut Vec<u8>, how: Comparison) -> Result<(), Memory>
 
 #[cycle(expressions)]
 // The later parts of a sum.
-fn write_sum_parts(
-    text: &mut Vec<u8>,
-    asked: &Asked<'_>,
-    rest: &SumPartList,
-) -> Result<(), Memory>
+fn write_sum_parts(text: &mut Vec<u8>, asked: &Asked<'_>, rest: &SumPartList) -> Result<(), Memory>
     requires { HasTexts asked.now }
     ensures { OnOk result (text.new.items ≡ written text.old.items
         (flat_map (λ part. parts_of (asked_pieces asked.now) (renamed (name_of asked.now.names.now) (numbered_sum_part part))) rest.now.items)) }

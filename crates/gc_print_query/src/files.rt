@@ -39,11 +39,7 @@ fn write_statements(
 }
 
 // A statement and the `;` that ends it.
-fn write_ended(
-    text: &mut Vec<u8>,
-    names: &NameTable,
-    statement: &Statement,
-) -> Result<(), Memory>
+fn write_ended(text: &mut Vec<u8>, names: &NameTable, statement: &Statement) -> Result<(), Memory>
     ensures { OnOk result (text.new.items ≡ written text.old.items (statement_pieces (statement_tree names.now statement.now))) }
 {
     write_statement(text, names, statement)?;

@@ -59,11 +59,7 @@ pub(crate) fn write_chains(
 
 #[tactic(auto, unfolding(crate::specs::QueryPieces::pieces_of))]
 // A term to group by.
-fn write_group_term(
-    text: &mut Vec<u8>,
-    names: &NameTable,
-    term: &GroupTerm,
-) -> Result<(), Memory>
+fn write_group_term(text: &mut Vec<u8>, names: &NameTable, term: &GroupTerm) -> Result<(), Memory>
     ensures { OnOk result (text.new.items ≡ written text.old.items (pieces_of 0 (group_term_tree names.now term.now))) }
 {
     write_name(text, names, term.name.sym)?;

@@ -75,10 +75,7 @@ pub(crate) fn write_copy_if(
 }
 
 /// `.` and a property, if there is one.
-pub(crate) fn write_property_if(
-    text: &mut Vec<u8>,
-    property: &Option<Name>,
-) -> Result<(), Memory>
+pub(crate) fn write_property_if(text: &mut Vec<u8>, property: &Option<Name>) -> Result<(), Memory>
     ensures { OnOk result (text.new.items ≡ written text.old.items (property_if property.now)) }
 {
     match property {
@@ -142,10 +139,7 @@ fn write_label_group(text: &mut Vec<u8>, group: &NameList) -> Result<(), Memory>
 }
 
 /// The labels of a pattern.
-pub(crate) fn write_label_groups(
-    text: &mut Vec<u8>,
-    groups: &LabelGroupList,
-) -> Result<(), Memory>
+pub(crate) fn write_label_groups(text: &mut Vec<u8>, groups: &LabelGroupList) -> Result<(), Memory>
     ensures { OnOk result (text.new.items ≡ written text.old.items (flat_map label_group groups.now)) }
 {
     for group in groups.as_slice() {

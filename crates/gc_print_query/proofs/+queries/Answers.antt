@@ -1,9 +1,8 @@
-use Rattle.std.proofs.Common.{◌≡◌, suc, ◌+◌, ◌∷◌, ◌++◌, [], ap, sym, refl, ◌∙◌, arith, get_or, length, map, take, codes, rules}
+use Rattle.std.proofs.Common.{◌≡◌, suc, ◌+◌, ◌∷◌, ◌++◌, [], ap, sym, ◌∙◌, arith, get_or, length, map, take, codes, rules}
 use Rattle.std.specs.List.{flat_map}
 use Rattle.std.specs.Option.{option_map}
 use Rattle.gc_lex.specs.declared.token.Mark.TheVariants as mark
-use Rattle.gc_expr.specs.Trees.{renamed}
-use Rattle.gc_expr.specs.Views.{name_of, numbered_expr}
+use Rattle.gc_expr.specs.Views.{name_of}
 use Rattle.gc_ast.specs.declared.construct.Assign.{Assign}
 use Rattle.gc_ast.specs.declared.construct.Change.{Change, the_lemmas}
 use Rattle.gc_ast.specs.declared.pattern.Chain as pattern
@@ -12,7 +11,6 @@ use Rattle.gc_ast.specs.declared.construct.ConstructPart.{ConstructPart}
 use Rattle.gc_ast.specs.declared.construct.Item.{Item}
 use Rattle.gc_ast.specs.declared.construct.NewElement.{out-NewElement}
 use Rattle.gc_ast.specs.declared.query.Basic.{out-Basic}
-use Rattle.gc_ast.specs.declared.query.Formula.{out-Formula}
 use Rattle.gc_ast.specs.declared.query.Head.{Head}
 use Rattle.gc_ast.specs.declared.query.MatchBlock.{out-MatchBlock}
 use Rattle.gc_ast.specs.declared.query.NextTerm.{NextTerm}
@@ -23,10 +21,9 @@ use Rattle.gc_ast.specs.declared.query.Query.{Query, out-Query}
 use Rattle.gc_ast.specs.Trees.{maybe}
 use Rattle.gc_ast.specs.PatternViews.{group_term_tree, located_tree, named, named_if, pattern_tree}
 use Rattle.gc_ast.specs.QueryViews.{head_by, query_by, part_by, new_element_by, assign_tree, basic_tree, block_tree, change_tree, formula_tree, head_tree, item_tree, new_element_tree, next_term_tree, optional_tree, part_tree, query_tree, term_tree}
-use Rattle.gc_print_query.specs.AskedQueries.{asked_pieces}
-use Rattle.gc_print_query.specs.Pieces.{Piece, Blank, Line, before_list, with_piece, written}
-use Rattle.gc_print_query.specs.ExpressionPieces.{mark_piece, parts_of, word}
-use Rattle.gc_print_query.specs.QueryPieces.{braced, clause, copy_if, edge, edge_end, edge_start, enclosed, grouped, label, lined, listed, name_if, named_query, path, path_end, path_start, pieces_of}
+use Rattle.gc_print_query.specs.Pieces.{Blank, Line, before_list, with_piece, written}
+use Rattle.gc_print_query.specs.ExpressionPieces.{mark_piece, word}
+use Rattle.gc_print_query.specs.QueryPieces.{braced, clause, copy_if, edge_end, edge_start, enclosed, grouped, label, lined, listed, name_if, named_query, path_end, path_start, pieces_of}
 use Rattle.gc_print_query.proofs.QueryTexts.{optional_pieces, basic_pieces, block_pieces, chain_pieces, element_pieces, formula_pieces, path_pieces, query_pieces, stored_pieces}
 use Rattle.gc_print_query.proofs.WrittenPieces.{braced_some, flat_turn, joined_turn, mapped_twice, renamed_last, take_turn, then, then_last}
 use Rattle.gc_print_query.proofs.+queries.Goals as goal

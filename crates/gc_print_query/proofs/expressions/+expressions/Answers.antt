@@ -1,8 +1,7 @@
-use Rattle.std.proofs.Common.{◌≡◌, ◌∷◌, ◌++◌, [], ap, sym, ◌∙◌, arith, get_or, length, map, codes}
+use Rattle.std.proofs.Common.{◌∷◌, ◌++◌, [], ap, sym, ◌∙◌, arith, get_or}
 use Rattle.std.specs.List.{flat_map}
 use Rattle.gc_lex.specs.declared.token.Mark.TheVariants as mark
 use Rattle.gc_expr.specs.declared.expr.Expr.{Expr}
-use Rattle.gc_expr.specs.declared.expr.ExprNode.{ExprNode}
 use Rattle.gc_expr.specs.declared.expr.SumPart.{SumPart}
 use Rattle.gc_expr.specs.declared.expr.ProductPart.{ProductPart}
 use Rattle.gc_expr.specs.Trees.{renamed}

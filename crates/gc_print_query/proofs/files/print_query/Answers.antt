@@ -1,4 +1,4 @@
-use Rattle.std.proofs.Common.{◌∷◌, [], ap, sym, ◌∙◌}
+use Rattle.std.proofs.Common.{[], ap, sym, ◌∙◌}
 use Rattle.std.specs.List.{flat_map}
 use Rattle.gc_ast.specs.QueryViews.{statement_tree}
 use Rattle.gc_ast.specs.declared.query.Statement.{Statement}

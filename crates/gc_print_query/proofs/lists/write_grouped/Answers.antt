@@ -1,4 +1,4 @@
-use Rattle.std.proofs.Common.{◌≡◌, ◌∷◌, [], ap, sym, ◌∙◌, map, codes}
+use Rattle.std.proofs.Common.{◌∷◌, [], ap, sym, ◌∙◌, map, codes}
 use Rattle.gc_ast.specs.declared.construct.GroupTerm.{GroupTerm}
 use Rattle.gc_ast.specs.PatternViews.{group_term_tree}
 use Rattle.gc_print_query.specs.Pieces.{Blank, with_piece}

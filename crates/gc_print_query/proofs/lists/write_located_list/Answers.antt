@@ -1,8 +1,7 @@
-use Rattle.std.proofs.Common.{◌+◌, ◌∷◌, [], ◌∙◌, arith}
-use Rattle.std.specs.List.{flat_map}
+use Rattle.std.proofs.Common.{◌∷◌, [], ◌∙◌, arith}
 use Rattle.gc_ast.specs.PatternViews.{located_tree}
 use Rattle.gc_lex.specs.declared.token.Mark.TheVariants as mark
-use Rattle.gc_print_query.specs.Pieces.{Blank, Line}
+use Rattle.gc_print_query.specs.Pieces.{Line}
 use Rattle.gc_print_query.specs.ExpressionPieces.{mark_piece}
 use Rattle.gc_print_query.specs.QueryPieces.{pieces_of}
 use Rattle.gc_print_query.proofs.WrittenPieces.{joined_turn}

@@ -1,10 +1,10 @@
-use Rattle.std.proofs.Common.{◌≡◌, ◌∷◌, ◌++◌, [], ap, sym, ◌∙◌, map}
+use Rattle.std.proofs.Common.{◌++◌, ap, sym, map}
 use Rattle.std.specs.List.{flat_map}
 use Rattle.gc_expr.specs.Views.{name_of}
 use Rattle.gc_ast.specs.PatternViews.{named_if, property_use_by}
 use Rattle.gc_print_query.specs.QueryPieces.{braced, label_group, name_if, pieces_of}
 use Rattle.gc_print_query.proofs.PatternPieces.{list_pieces}
-use Rattle.gc_print_query.proofs.WrittenPieces.{then, then_last, renamed_last}
+use Rattle.gc_print_query.proofs.WrittenPieces.{then_last, renamed_last}
 use Rattle.gc_print_query.proofs.patterns.write_element.Goals as goal
 
 pub returns : goal.returns

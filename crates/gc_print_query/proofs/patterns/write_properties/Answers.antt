@@ -1,9 +1,9 @@
-use Rattle.std.proofs.Common.{◌≡◌, ◌∷◌, [], ap, sym, ◌∙◌, map, length}
+use Rattle.std.proofs.Common.{◌∷◌, [], ap, sym, ◌∙◌, map}
 use Rattle.gc_expr.specs.Views.{name_of}
 use Rattle.gc_ast.specs.declared.pattern.PropertyUse.{PropertyUse}
 use Rattle.gc_ast.specs.PatternViews.{property_use_by}
 use Rattle.gc_lex.specs.declared.token.Mark.TheVariants as mark
-use Rattle.gc_print_query.specs.Pieces.{Blank, joined, with_piece, written}
+use Rattle.gc_print_query.specs.Pieces.{Blank, with_piece, written}
 use Rattle.gc_print_query.specs.ExpressionPieces.{mark_piece}
 use Rattle.gc_print_query.specs.QueryPieces.{braced, listed, pieces_of}
 use Rattle.gc_print_query.proofs.WrittenPieces.{then, then_last, renamed_last, braced_some}

@@ -1,4 +1,4 @@
-use Rattle.std.proofs.Common.{◌∷◌, [], ap, ◌∙◌, arith}
+use Rattle.std.proofs.Common.{◌∷◌, [], ◌∙◌, arith}
 use Rattle.gc_expr.specs.Views.{name_of}
 use Rattle.gc_ast.specs.PatternViews.{property_use_by}
 use Rattle.gc_lex.specs.declared.token.Mark.TheVariants as mark
