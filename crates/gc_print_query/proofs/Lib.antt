@@ -14,4 +14,5 @@ pub mod Relocated
 pub mod Rereading
 pub mod TokensRead
 pub mod Utf8Pieces
+pub mod Utf8Tokens
 pub mod WrittenPieces

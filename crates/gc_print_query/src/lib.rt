@@ -13,4 +13,4 @@ mod pieces;
 mod queries;
 
 pub use files::print_query;
-pub use laws::printed_files_read_back;
+pub use laws::{printed_files_read_back, tokens_can_be_written};
