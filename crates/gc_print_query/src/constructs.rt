@@ -211,7 +211,8 @@ fn write_changes(
     depth: usize,
     changes: &ChangeList,
 ) -> Result<(), Memory>
-    ensures { OnOk result (text.new.items ≡ written text.old.items (flat_map (λ c. Line (depth + 1) ∷ pieces_of depth (change_tree names.now c)) changes.now.items)) }
+    ensures { OnOk result (text.new.items ≡ written text.old.items
+        (flat_map (λ c. Line (depth + 1) ∷ pieces_of depth (change_tree names.now c)) changes.now.items)) }
 {
     let next = deeper(depth)?;
     for change in changes {

@@ -27,22 +27,41 @@ pub(crate) struct Asked<'a> {
     pub texts: &'a [Bytes],
 }
 
+/// How loosely expressions hold together, the tightest first.
+const PRIMARY: u8 = 0;
+
+const POSTFIX: u8 = 1;
+
+const SIGNED: u8 = 2;
+
+const PRODUCT: u8 = 3;
+
+const SUM: u8 = 4;
+
+const COMPARISON: u8 = 5;
+
+const NEGATION: u8 = 6;
+
+const CONJUNCTION: u8 = 7;
+
+const DISJUNCTION: u8 = 8;
+
 #[tactic(auto, unfolding(gc_expr::specs::Views::numbered_node, gc_expr::specs::Trees::renamed, crate::specs::ExpressionPieces::parts_of))]
 // How loosely an expression holds together.
 fn rank(node: &ExprNode) -> u8
     ensures { (exists : List (List Piece)) (names : Names) → result ≡ (parts_of exists (renamed (name_of names) (numbered_node node.now))).rank }
 {
     match node {
-        ExprNode::Property(_, _) => 1,
-        ExprNode::Labelled(_, _) => 1,
-        ExprNode::Negate(_) => 2,
-        ExprNode::Product(_, _) => 3,
-        ExprNode::Sum(_, _) => 4,
-        ExprNode::Compare(_, _, _) => 5,
-        ExprNode::Not(_) => 6,
-        ExprNode::And(_) => 7,
-        ExprNode::Or(_) => 8,
-        _ => 0,
+        ExprNode::Property(_, _) => POSTFIX,
+        ExprNode::Labelled(_, _) => POSTFIX,
+        ExprNode::Negate(_) => SIGNED,
+        ExprNode::Product(_, _) => PRODUCT,
+        ExprNode::Sum(_, _) => SUM,
+        ExprNode::Compare(_, _, _) => COMPARISON,
+        ExprNode::Not(_) => NEGATION,
+        ExprNode::And(_) => CONJUNCTION,
+        ExprNode::Or(_) => DISJUNCTION,
+        _ => PRIMARY,
     }
 }
 
@@ -51,7 +70,8 @@ fn rank(node: &ExprNode) -> u8
 /// An expression.
 pub(crate) fn write_expr(text: &mut Vec<u8>, asked: &Asked<'_>, expr: &Expr) -> Result<(), Memory>
     requires { HasTexts asked.now }
-    ensures { OnOk result (text.new.items ≡ written text.old.items (parts_of (asked_pieces asked.now) (renamed (name_of asked.now.names.now) (numbered_expr expr.now))).pieces) }
+    ensures { OnOk result (text.new.items ≡ written text.old.items
+        (parts_of (asked_pieces asked.now) (renamed (name_of asked.now.names.now) (numbered_expr expr.now))).pieces) }
 {
     write_node(text, asked, &expr.node)
 }
@@ -61,7 +81,8 @@ pub(crate) fn write_expr(text: &mut Vec<u8>, asked: &Asked<'_>, expr: &Expr) -> 
 // An operand, in parentheses where it is looser than allowed.
 fn write_closed(text: &mut Vec<u8>, asked: &Asked<'_>, expr: &Expr, most: u8) -> Result<(), Memory>
     requires { HasTexts asked.now }
-    ensures { OnOk result (text.new.items ≡ written text.old.items (closed most (parts_of (asked_pieces asked.now) (renamed (name_of asked.now.names.now) (numbered_expr expr.now))))) }
+    ensures { OnOk result (text.new.items ≡ written text.old.items
+        (closed most (parts_of (asked_pieces asked.now) (renamed (name_of asked.now.names.now) (numbered_expr expr.now))))) }
 {
     if rank(&expr.node) <= most {
         return write_node(text, asked, &expr.node);
@@ -76,7 +97,8 @@ fn write_closed(text: &mut Vec<u8>, asked: &Asked<'_>, expr: &Expr, most: u8) ->
 // What an expression is.
 fn write_node(text: &mut Vec<u8>, asked: &Asked<'_>, node: &ExprNode) -> Result<(), Memory>
     requires { HasTexts asked.now }
-    ensures { OnOk result (text.new.items ≡ written text.old.items (parts_of (asked_pieces asked.now) (renamed (name_of asked.now.names.now) (numbered_node node.now))).pieces) }
+    ensures { OnOk result (text.new.items ≡ written text.old.items
+        (parts_of (asked_pieces asked.now) (renamed (name_of asked.now.names.now) (numbered_node node.now))).pieces) }
 {
     match node {
         ExprNode::Number(number) => write_number(text, *number),
@@ -92,21 +114,21 @@ fn write_node(text: &mut Vec<u8>, asked: &Asked<'_>, node: &ExprNode) -> Result<
         ExprNode::Aggregate(fold, Some(of)) => write_fold(text, asked, *fold, of),
         ExprNode::Negate(of) => write_negated(text, asked, of),
         ExprNode::Sum(first, rest) => {
-            write_closed(text, asked, first, 3)?;
+            write_closed(text, asked, first, PRODUCT)?;
             write_sum_parts(text, asked, rest)
         }
         ExprNode::Product(first, rest) => {
-            write_closed(text, asked, first, 2)?;
+            write_closed(text, asked, first, SIGNED)?;
             write_product_parts(text, asked, rest)
         }
         ExprNode::Compare(how, left, right) => {
-            write_closed(text, asked, left, 4)?;
+            write_closed(text, asked, left, SUM)?;
             write_comparison(text, *how)?;
-            write_closed(text, asked, right, 4)
+            write_closed(text, asked, right, SUM)
         }
         ExprNode::Not(of) => write_not(text, asked, of),
-        ExprNode::And(parts) => write_parts(text, asked, parts, b"AND", 6),
-        ExprNode::Or(parts) => write_parts(text, asked, parts, b"OR", 7),
+        ExprNode::And(parts) => write_parts(text, asked, parts, b"AND", NEGATION),
+        ExprNode::Or(parts) => write_parts(text, asked, parts, b"OR", CONJUNCTION),
         ExprNode::Exists(number) => write_exists(text, asked, *number),
     }
 }
@@ -128,10 +150,11 @@ fn write_suffixed(
     name: &Name,
 ) -> Result<(), Memory>
     requires { HasTexts asked.now }
-    ensures { OnOk result (text.new.items ≡ written text.old.items (closed 0 (parts_of (asked_pieces asked.now) (renamed (name_of asked.now.names.now) (numbered_expr of.now)))
+    ensures { OnOk result (text.new.items ≡ written text.old.items
+        (closed 0 (parts_of (asked_pieces asked.now) (renamed (name_of asked.now.names.now) (numbered_expr of.now)))
         ++ mark_piece mark ∷ word name.now ∷ [])) }
 {
-    write_closed(text, asked, of, 0)?;
+    write_closed(text, asked, of, PRIMARY)?;
     write_mark(text, mark)?;
     write_word(text, name.bytes())
 }
@@ -214,7 +237,7 @@ fn write_negated(text: &mut Vec<u8>, asked: &Asked<'_>, of: &Expr) -> Result<(),
         ∷ closed 1 (parts_of (asked_pieces asked.now) (renamed (name_of asked.now.names.now) (numbered_expr of.now))))) }
 {
     write_mark(text, Mark::Minus)?;
-    write_closed(text, asked, of, 1)
+    write_closed(text, asked, of, POSTFIX)
 }
 
 #[cycle(expressions)]
@@ -226,7 +249,7 @@ fn write_not(text: &mut Vec<u8>, asked: &Asked<'_>, of: &Expr) -> Result<(), Mem
 {
     write_word(text, b"NOT")?;
     write_blank(text)?;
-    write_closed(text, asked, of, 5)
+    write_closed(text, asked, of, COMPARISON)
 }
 
 fn write_operator(text: &mut Vec<u8>, how: Comparison) -> Result<(), Memory>
@@ -281,7 +304,7 @@ fn write_sum_part(
     write_blank(text)?;
     write_mark(text, if minus { Mark::Minus } else { Mark::Plus })?;
     write_blank(text)?;
-    write_closed(text, asked, part, 3)
+    write_closed(text, asked, part, PRODUCT)
 }
 
 #[cycle(expressions)]
@@ -326,7 +349,7 @@ fn write_product_part(
     write_blank(text)?;
     write_mark(text, product_mark(op))?;
     write_blank(text)?;
-    write_closed(text, asked, part, 2)
+    write_closed(text, asked, part, SIGNED)
 }
 
 // A word between spaces, but not before the first of a list.

@@ -48,7 +48,8 @@ pub(crate) fn write_chains(
     depth: usize,
     chains: &[Chain],
 ) -> Result<(), Memory>
-    ensures { OnOk result (text.new.items ≡ written text.old.items (lined depth (map (λ c. flat_map (λ p. pieces_of 0 (pattern_tree names.now p)) c.parts) chains.now))) }
+    ensures { OnOk result (text.new.items ≡ written text.old.items
+        (lined depth (map (λ c. flat_map (λ p. pieces_of 0 (pattern_tree names.now p)) c.parts) chains.now))) }
 {
     for (i, chain) in chains.iter().enumerate() {
         write_comma_line(text, i, depth)?;
@@ -72,7 +73,8 @@ fn write_group_terms(
     names: &NameTable,
     terms: &[GroupTerm],
 ) -> Result<(), Memory>
-    ensures { OnOk result (text.new.items ≡ written text.old.items (joined (mark_piece mark.Comma ∷ Blank ∷ []) (map (λ t. pieces_of 0 (group_term_tree names.now t)) terms.now))) }
+    ensures { OnOk result (text.new.items ≡ written text.old.items
+        (joined (mark_piece mark.Comma ∷ Blank ∷ []) (map (λ t. pieces_of 0 (group_term_tree names.now t)) terms.now))) }
 {
     for (i, term) in terms.iter().enumerate() {
         write_comma(text, i)?;
@@ -106,7 +108,8 @@ pub(crate) fn write_path(
     name: &NameAt,
     chains: &[Chain],
 ) -> Result<(), Memory>
-    ensures { OnOk result (text.new.items ≡ written text.old.items ((word (codes "PATH") ∷ Blank ∷ word (name_of names.now name.now.sym) ∷ Blank ∷ mark_piece mark.Equals ∷ Blank ∷ []) ++ lined depth
+    ensures { OnOk result (text.new.items ≡ written text.old.items
+        ((word (codes "PATH") ∷ Blank ∷ word (name_of names.now name.now.sym) ∷ Blank ∷ mark_piece mark.Equals ∷ Blank ∷ []) ++ lined depth
         (map (λ c. flat_map (λ p. pieces_of 0 (pattern_tree names.now p)) c.parts) chains.now))) }
 {
     write_path_name(text, names, name)?;
@@ -115,7 +118,8 @@ pub(crate) fn write_path(
 
 // `PATH v = `
 fn write_path_name(text: &mut Vec<u8>, names: &NameTable, name: &NameAt) -> Result<(), Memory>
-    ensures { OnOk result (text.new.items ≡ written text.old.items (word (codes "PATH") ∷ Blank ∷ word (name_of names.now name.now.sym) ∷ Blank ∷ mark_piece mark.Equals ∷ Blank ∷ [])) }
+    ensures { OnOk result (text.new.items ≡ written text.old.items
+        (word (codes "PATH") ∷ Blank ∷ word (name_of names.now name.now.sym) ∷ Blank ∷ mark_piece mark.Equals ∷ Blank ∷ [])) }
 {
     write_word(text, b"PATH")?;
     write_blank(text)?;

@@ -94,7 +94,8 @@ pub(crate) fn write_named_query(
     name: &NameAt,
     query: &Query,
 ) -> Result<(), Memory>
-    ensures { OnOk result (text.new.items ≡ written text.old.items (named_query depth (named names.now name.now) (pieces_of (depth + 1) (query_tree names.now query.now)))) }
+    ensures { OnOk result (text.new.items ≡ written text.old.items
+        (named_query depth (named names.now name.now) (pieces_of (depth + 1) (query_tree names.now query.now)))) }
 {
     write_name(text, names, name.sym)?;
     write_blank(text)?;
@@ -237,7 +238,8 @@ fn write_optionals(
     depth: usize,
     optionals: &OptionalList,
 ) -> Result<(), Memory>
-    ensures { OnOk result (text.new.items ≡ written text.old.items (flat_map (λ o. Line depth ∷ pieces_of depth (optional_tree names.now o)) optionals.now.items)) }
+    ensures { OnOk result (text.new.items ≡ written text.old.items
+        (flat_map (λ o. Line depth ∷ pieces_of depth (optional_tree names.now o)) optionals.now.items)) }
 {
     for optional in optionals {
         write_optional(text, names, depth, optional)?;
@@ -273,7 +275,8 @@ pub(crate) fn write_clause(
     bytes: &[u8],
     formula: &Option<Formula>,
 ) -> Result<(), Memory>
-    ensures { OnOk result (text.new.items ≡ written text.old.items (clause line bytes.now (pieces_of depth (maybe (option_map (formula_tree names.now) formula.now))))) }
+    ensures { OnOk result (text.new.items ≡ written text.old.items
+        (clause line bytes.now (pieces_of depth (maybe (option_map (formula_tree names.now) formula.now))))) }
 {
     match formula {
         None => Ok(()),
@@ -314,7 +317,8 @@ fn enclosed_texts(
     depth: usize,
     queries: &QueryList,
 ) -> Result<Vec<Bytes>, Memory>
-    ensures { IfOk result (λ texts. texts.items ≡ map (written []) (map (λ query. enclosed depth (pieces_of (depth + 1) (query_tree names.now query))) queries.now.items)) }
+    ensures { IfOk result (λ texts.
+        texts.items ≡ map (written []) (map (λ query. enclosed depth (pieces_of (depth + 1) (query_tree names.now query))) queries.now.items)) }
 {
     let mut texts = Vec::new(*text.allocator());
     for query in queries {
