@@ -15,7 +15,7 @@ use Rattle.gc_query.specs.Standings.{Made, Standing}
 use Rattle.gc_query.specs.Steps.{IsStep, free_word, standing, with_named, with_next, with_view}
 use Rattle.gc_query.specs.declared.fault.Fault.{Fault}
 use Rattle.gc_query.specs.declared.log.Wants.{Wants}
-use Rattle.gc_query.specs.declared.log.Wants.TheVariants.{Nothing, Plans}
+use Rattle.gc_query.specs.declared.log.Wants.TheVariants.{Nothing, Plans, Searches}
 use Rattle.gc_spec.specs.PropertyGraph.{PropertyGraph}
 use Rattle.gcore.specs.LoggedSessions.{HasLog, LogsSession, LogsStatement, IsFaulted, IsTold}
 use Rattle.gcore.specs.Outcomes.{Prints, Request, beginning}
@@ -76,6 +76,7 @@ module _ (r : Request) (names : List (Option (List ℕ))) (wants : Wants) where
   none_gained : (w : Wants) (log : Log) → log ≡ new_log w → IsGained scope (new_log w) [] log
   none_gained Nothing log h = h
   none_gained Plans log h = h
+  none_gained Searches log h = ([], refl, h)
 
   -- none has at first
   pub at_start : (c : NamedGraphs) (log : Log) → standing c ≡ beginning r.graphs → c.names ≡ names → log ≡ new_log wants → IsEvaluatedSoFar 0 c log
