@@ -1,5 +1,5 @@
 -- The turns of the search: one that settles the least walk that is pending, and two that drop it.
-use Rattle.std.proofs.Common.{◌≡◌, ℕ, ◌+◌, ◌*◌, ◌^◌, ◌≤◌, List, [], ◌∷◌, ◌++◌, inl, inr, length, map, Option, None, Some, Bool, true, false, nat_lt, refl, ap, ◌∙◌, subst, arith, length-append}
+use Rattle.std.proofs.Common.{◌≡◌, ℕ, ◌+◌, ◌*◌, ◌^◌, ◌<◌, ◌≤◌, List, [], ◌∷◌, ◌++◌, inl, inr, length, map, Option, None, Some, Bool, true, false, nat_lt, refl, ap, ◌∙◌, subst, arith, length-append}
 use Rattle.std.specs.List.{AllByRecursion}
 use Rattle.std.specs.List.Sorted.{IsPermutation}
 use Rattle.std.proofs.lemmas.List.{map-append}
@@ -22,10 +22,12 @@ last_of x [] = ([], x, refl)
 last_of x (z ∷ xs) = let l = last_of z xs in (x ∷ l.0, l.1, ap (λ v. x ∷ v) l.2)
 
 module _ (setting : Setting) (source k : ℕ) where
-  -- what holds before and after each turn: each that is pending costs at most so much for each that is settled
+  -- what holds before and after each turn: each that is pending costs at most so much for each that is settled, and these are too few
+  -- for large costs
   pub record IsOn (settled pending : List FoundWalk) : Type 0 where
     pub state : State setting source k settled pending
     pub small : AllByRecursion (λ a. a.cost ≤ length settled * 2 ^ 64) pending
+    pub low : AllByRecursion (λ a. a.cost < 2 ^ 127) settled
     pub found : AllByRecursion (IsFollowed setting source) settled
     pub due : AllByRecursion (IsFollowed setting source) pending
 
@@ -36,13 +38,14 @@ module _ (setting : Setting) (source k : ℕ) where
       record {
         state = state_same setting source k settled xs ys (λ x h. has_permuted xs ys x p h) back on.state;
         small = all_of_has (λ (a : FoundWalk). a.cost ≤ length settled * 2 ^ 64) ys (λ x h. all_has (λ (a : FoundWalk). a.cost ≤ length settled * 2 ^ 64) xs x on.small (back x h));
+        low = on.low;
         found = on.found;
         due = all_of_has (IsFollowed setting source) ys (λ x h. all_has (IsFollowed setting source) xs x on.due (back x h));
       }
 
   pub turn_start : (pending : List FoundWalk) → stays_at source ∷ [] ≡ pending → IsOn [] pending
   turn_start pending same =
-      subst (IsOn []) same (record { state = state_start setting source k; small = (omega arith, tt); found = tt; due = ((refl, refl, refl), tt) })
+      subst (IsOn []) same (record { state = state_start setting source k; small = (omega arith, tt); low = tt; found = tt; due = ((refl, refl, refl), tt) })
 
   pub turn_end : (settled pending : List FoundWalk) → IsOn settled pending → pending ≡ [] → (q : Pair) → IsFirstK k (Reach (passages setting) (pair source 0) q) (settled_at settled q)
   turn_end settled pending on none = state_end setting source k settled (subst (State setting source k settled) none on.state)
@@ -73,6 +76,7 @@ module _ (setting : Setting) (source k : ℕ) where
     dropped state = record {
       state = state;
       small = all_rest (λ (a : FoundWalk). a.cost ≤ length settled * 2 ^ 64) cs rest c t on.small;
+      low = on.low;
       found = on.found;
       due = all_rest (IsFollowed setting source) cs rest c t on.due;
     }
@@ -94,20 +98,22 @@ module _ (setting : Setting) (source k : ℕ) where
             last_alone Pair (passages setting) (pair source 0) k node_of (each refl) (settled_at settled) (IsPending cs) on.state c.at (entry_of c) (c, t.there, refl, refl)
             (map entry_of l.0) (entry_of l.1) (ap (map entry_of) is ∙ map-append entry_of l.0 (l.1 ∷ [])) (new l.0 l.1 is) seen.0 seen.1 seen.2
 
-    pub turn_settles : ((q : Pair) (m : Passage Pair) → Has (passages setting q) m → IsOnward node_of q m) → IsNew settled k c
+    pub turn_settles : ((q : Pair) (m : Passage Pair) → Has (passages setting q) m → IsOnward node_of q m) → IsNew settled k c → length settled < 2 ^ 63
         → (after : List FoundWalk) → IsPermutation (rest ++ extensions setting c (open_moves settled k (moves setting c.at.node c.at.state))) after
         → AllByRecursion (λ a. a.cost ≤ c.cost + 2 ^ 64) (extensions setting c (open_moves settled k (moves setting c.at.node c.at.state)))
         → IsOn (settled ++ c ∷ []) after
-    turn_settles costs new after grown small =
+    turn_settles costs new few after grown small =
         let next = extensions setting c (open_moves settled k (moves setting c.at.node c.at.state)) in
         let most = length (settled ++ c ∷ []) * 2 ^ 64 in
         let least : length settled * 2 ^ 64 ≤ most = omega (arith, length-append settled (c ∷ [])) in
         let room_for : c.cost + 2 ^ 64 ≤ most = omega (arith, length-append settled (c ∷ []), turn_small) in
         let all = all_rest (λ (a : FoundWalk). a.cost ≤ length settled * 2 ^ 64) cs rest c t on.small in
+        let low : c.cost < 2 ^ 127 = omega (arith, turn_small, few) in
         let is_followed = all_has (IsFollowed setting source) cs c on.due t.there in
         permuted (settled ++ c ∷ []) (rest ++ next) after grown (record {
           state = state_settle setting source k settled cs rest c on.state t costs new;
           small = AllByRecursion-append (λ (a : FoundWalk). a.cost ≤ most) rest next (costs_more (length settled * 2 ^ 64) most rest least all) (costs_more (c.cost + 2 ^ 64) most next room_for small);
+          low = AllByRecursion-append (λ (a : FoundWalk). a.cost < 2 ^ 127) settled (c ∷ []) on.low (low, tt);
           found = AllByRecursion-append (IsFollowed setting source) settled (c ∷ []) on.found (is_followed, tt);
           due = AllByRecursion-append (IsFollowed setting source) rest next (all_rest (IsFollowed setting source) cs rest c t on.due) (followed_further settled c is_followed);
         })

@@ -1,4 +1,4 @@
-ghost use Rattle.std.specs.Prelude.{◌≡◌, ◌+◌, ◌*◌, ◌<◌, ◌≤◌, [], true, ℕ, IfOk};
+ghost use Rattle.std.specs.Prelude.{◌≡◌, ◌+◌, ◌-◌, ◌*◌, ◌^◌, ◌<◌, ◌≤◌, [], true, ℕ, IfOk};
 ghost use Rattle.std.specs.List.{AllByRecursion};
 ghost use Rattle.gc_regx.specs.Expressions.{HasParts};
 ghost use Rattle.gc_regx.specs.Trees.{RegexTree, ARegex};
@@ -22,9 +22,9 @@ use std::sync::ledger::Ledger;
 /// The first k walks from a node to every node that a run passes from the first state to the last, by
 /// cost, then by the number of edges, then by the edges one after another. Where the automaton is that
 /// of an expression, these are exactly the first k walks that conform to it. Each is found with a run
-/// that passes it at its cost, and for each node and state there is the least cost at which a run
-/// reaches them. It takes no more steps than k times the transitions, times the number of all nodes,
-/// edges and segments.
+/// that passes it at its cost, and leads to the last state; and for each node and state there is the
+/// least cost at which a run reaches them. All costs are below 2^127. It takes no more steps than k
+/// times the transitions, times the number of all nodes, edges and segments.
 pub fn search<L: Ledger>(
     alloc: Global,
     p: &Product,
@@ -40,6 +40,8 @@ pub fn search<L: Ledger>(
         → (target : ℕ) → AreFirst (Conforms p.now.network tree) source target k (walks_to found target)) }
     ensures passed { IfOk result (λ found. AllByRecursion (IsFollowed p.now source) found.walks) }
     ensures potentials { IfOk result (λ found. (q : Pair) → IsPotential p.now source q (potential_of found q)) }
+    ensures last { IfOk result (λ found. found.last ≡ p.now.machine.states - 1) }
+    ensures low { IfOk result (λ found. AllByRecursion (λ a. a.cost < 2 ^ 127) found.walks) }
     ensures few { steps.new ≤ steps.old + k * most_moves p.now }
 {
     runs_pass_the_conforming_walks();

@@ -142,6 +142,7 @@ pub(crate) fn settle<L: Ledger>(
         → IsFirstK k (Reach (passages p.now) (pair source 0) q) (settled_at settled.walks q)) }
     ensures followed { IfOk result (λ settled. AllByRecursion (IsFollowed p.now source) settled.walks) }
     ensures small { IfOk result (λ settled. (q : Pair) → length (settled_at settled.walks q) ≤ k) }
+    ensures low { IfOk result (λ settled. AllByRecursion (λ a. a.cost < 2 ^ 127) settled.walks) }
     ensures few { steps.new ≤ steps.old + k * most_moves p.now }
 {
     let mut settled = Settled::of(alloc, p.nodes(), p.width())?;

@@ -118,7 +118,7 @@ turns-preserved-in_ok-push g c =
     let single : sum_by (degree p) (next ∷ []) ≡ degree p next = omega arith in
     record {
       on = subst (λ (l : List FoundWalk). IsOn p c.args.source k l after) (sym one)
-          (turn_settles p c.args.source k walks (waiting c.turns.pending) rest next inv.on c.in-Some.ensures.some.takes c.requires.costs fresh after grown small);
+          (turn_settles p c.args.source k walks (waiting c.turns.pending) rest next inv.on c.in-Some.ensures.some.takes c.requires.costs fresh c.is_new.ensures.few after grown small);
       few = omega (arith, inv.few, c.all_extended.ensures.few, ap (asked p) one, sum_by-append (degree p) walks (next ∷ []), single);
       lead = subst (λ (s : Listing). LeadNumbered p s.nodes s.width) (sym is) inv.lead;
       numbered = subst (λ (s : Listing). AreNumbered s.nodes s.width after) (sym is) all;

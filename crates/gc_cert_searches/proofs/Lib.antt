@@ -1,0 +1,15 @@
+pub mod Accepting
+pub mod Assembling
+pub mod BoundRows
+pub mod DocumentLaw
+pub mod FirstDocs
+pub mod Grouping
+pub mod InTurn
+pub mod Listing
+pub mod Lowness
+pub mod OneFirst
+pub mod Order
+pub mod Reaching
+pub mod SameSegments
+pub mod StateRange
+pub mod TableWalks
