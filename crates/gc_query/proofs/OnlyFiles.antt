@@ -18,7 +18,8 @@ use Rattle.gc_query.proofs.WalkEntries.{match_lies}
 
 -- a file, by the occurrences in which its unnamed elements are
 module _ (s : Scope) (os : Occurrences) (is : (t : ℕ) → s.hidden_at t ≡ hidden_from (length s.names) os t) where
-  basic_only : (v : Sights) → v.uses ≡ [] → (o : occurrence.Scope) (basic : Tree ABasic) (from upto : ℕ) → IsUnbroken (breaches v basic) → IsInOrder s.names from basic upto
+  basic_only : (v : Sights) → v.uses ≡ [] → (o : occurrence.Scope) (basic : Tree ABasic) (from upto : ℕ) → IsUnbroken (breaches v basic)
+      → IsInOrder s.names from basic upto
       → Among s os is (occurrences o basic) → IsAtOnePattern s basic
   unfolding breaches IsInOrder
   basic_only v none o (tree.Basic token items main optionals) from upto h order among =
@@ -27,7 +28,8 @@ module _ (s : Scope) (os : Occurrences) (is : (t : ℕ) → s.hidden_at t ≡ hi
       (match_lies s.names s order.0 order.1 main optionals upto order.3 order.4).one
 
   -- each tree, whatever is in scope
-  only_of : {k : Kind} (v : Sights) → v.uses ≡ [] → (o : occurrence.Scope) (t : Tree k) (from upto : ℕ) → IsUnbroken (breaches v t) → IsInOrder s.names from t upto → Among s os is (occurrences o t)
+  only_of : {k : Kind} (v : Sights) → v.uses ≡ [] → (o : occurrence.Scope) (t : Tree k) (from upto : ℕ) → IsUnbroken (breaches v t)
+      → IsInOrder s.names from t upto → Among s os is (occurrences o t)
       → EachBasic (IsAtOnePattern s) t
   unfolding EachBasic breaches IsInOrder occurrences
   only_of v none o (tree.Ask query) from upto h order among = only_of v none o query from upto h order among
@@ -51,7 +53,8 @@ module _ (s : Scope) (os : Occurrences) (is : (t : ℕ) → s.hidden_at t ≡ hi
   )
   only_of v none o other from upto h order among = tt
 
-each_only : (s : Scope) (statements : List (Tree AStatement)) → EachBasic (IsAtOnePattern s) (row statements) → AllByRecursion (EachBasic (IsAtOnePattern s)) statements
+each_only : (s : Scope) (statements : List (Tree AStatement)) → EachBasic (IsAtOnePattern s) (row statements)
+    → AllByRecursion (EachBasic (IsAtOnePattern s)) statements
 unfolding EachBasic
 each_only s [] h = tt
 each_only s (t ∷ ts) h = (h.0, each_only s ts h.1)

@@ -1,8 +1,7 @@
 -- In a MATCH that breaks no rule a pattern that asks for one walk is the only one that has the variable of the walk.
-use Rattle.std.proofs.Common.{◌≡◌, ◌⊎◌, inl, inr, ⊎_elim, ℕ, ◌==◌, Bool, true, false, cond, List, [], ◌∷◌, ◌++◌, Option, refl, sym, ap, ◌∙◌, subst, arith}
+use Rattle.std.proofs.Common.{◌≡◌, inl, inr, ⊎_elim, ℕ, ◌==◌, Bool, true, false, List, [], ◌∷◌, ◌++◌, refl, sym, ap, ◌∙◌, subst, arith}
 use Rattle.std.specs.Prelude.{if◌then◌else◌}
-use Rattle.std.specs.List.{AllByRecursion, Contains, flat_map}
-use Rattle.gc_base.specs.declared.place.Sym.{Sym}
+use Rattle.std.specs.List.{Contains, flat_map}
 use Rattle.gc_ast.specs.Trees as tree
 use Rattle.gc_ast.specs.Trees.{RowOf, ABlock, AnItem, AnOptional, Tree}
 use Rattle.gc_alg.specs.Instances.{listed, variables_of}
@@ -12,8 +11,6 @@ use Rattle.gc_alg.specs.declared.atom.AtomWhat.{AtomWhat}
 use Rattle.gc_alg.specs.declared.atom.AtomWhat.TheVariants as atom
 use Rattle.gc_cert_searches.specs.Patterns.{AreOnly, IsOnly, Pattern, pattern_by, pattern_of, patterns_of}
 use Rattle.gc_rows.proofs.Members.{cons_cases, contains_here, contains_later, each_member, from_flat_map, of_member}
-use Rattle.gc_rows.specs.Rows.{lists}
-use Rattle.gc_sorts.specs.Matches.{place_breaches}
 use Rattle.gc_sorts.specs.SortRules.{construct_breaches, match_breaches}
 use Rattle.gc_sorts.specs.Uses.{all_of, block_uses, optional_uses}
 use Rattle.gc_sorts.specs.Variables.{Use}
@@ -26,7 +23,7 @@ use Rattle.gc_query.proofs.MatchPlaces.{PlaceOn}
 use Rattle.gc_query.proofs.MatchReads.{AtomWalks, IsWalkPlace, WalkStands}
 use Rattle.gc_query.proofs.MatchSorts.{is_walk_role, walk_alone}
 use Rattle.gc_query.proofs.SearchedAtoms.{IsUnbroken}
-use Rattle.gc_query.proofs.WalkEntries.{Entry, entry_at, entry_token, match_entries}
+use Rattle.gc_query.proofs.WalkEntries.{Entry, entry_at, match_entries}
 use Rattle.gc_query.proofs.WalkPlaces.{AtomAt, StandsAt, bare, match_at, plain}
 
 -- the pattern of an atom, if it has one, is the only one of the atom, and its variable is that of the atom's walk
@@ -35,7 +32,8 @@ record IsPatternOf (s : Scope) (places : List PlaceOn) (graph : ℕ) (what : Ato
   among : Contains (variables_of what) f.path
   place : IsWalkPlace s places graph f.path
 
-pattern_facts : (s : Scope) (places : List PlaceOn) (graph : ℕ) (what : AtomWhat) (f : Pattern) → Contains (pattern_of graph what) f → WalkStands s places graph what → IsPatternOf s places graph what f
+pattern_facts : (s : Scope) (places : List PlaceOn) (graph : ℕ) (what : AtomWhat) (f : Pattern) → Contains (pattern_of graph what) f
+    → WalkStands s places graph what → IsPatternOf s places graph what f
 pattern_facts s places graph (atom.Node x labels) f m h = absurd (omega (arith, m.1))
 pattern_facts s places graph (atom.Edge x e y way labels) f m h = absurd (omega (arith, m.1))
 pattern_facts s places graph (atom.Property x kind name v) f m h = absurd (omega (arith, m.1))
@@ -71,7 +69,8 @@ module _ (s : Scope) (graphs : List (List ℕ)) (items : Tree (RowOf AnItem)) (m
   here = atoms s graphs items main optionals distinct matched made
 
   -- an atom that has the variable of a walk has the entry at the place of the walk
-  entry_of : (u : Use) → Contains uses u → is_walk_role u.role ≡ true → (a : Atom) → Contains here a → Contains (variables_of a.what) (variable_of s u.name) → Contains entries (entry_at u.token a)
+  entry_of : (u : Use) → Contains uses u → is_walk_role u.role ≡ true → (a : Atom) → Contains here a
+      → Contains (variables_of a.what) (variable_of s u.name) → Contains entries (entry_at u.token a)
   entry_of u m w a k h =
       by
       (of_member (StandsAt s uses (match_tokens main optionals) entries a) (variables_of a.what) (variable_of s u.name)
@@ -88,7 +87,8 @@ module _ (s : Scope) (graphs : List (List ℕ)) (items : Tree (RowOf AnItem)) (m
       by (inr walked) = subst (λ (q : Use). Contains entries (entry_at q.token a)) (same walked.at_place walked.among walked.is) walked.entry
 
   -- so it is the atom of the pattern of the walk
-  only_of : (f : Pattern) → Contains (patterns_of (block s graphs items main optionals distinct matched made)) f → IsOnly (block_atoms (block s graphs items main optionals distinct matched made)) f
+  only_of : (f : Pattern) → Contains (patterns_of (block s graphs items main optionals distinct matched made)) f
+      → IsOnly (block_atoms (block s graphs items main optionals distinct matched made)) f
   only_of f m a k h =
       let are = atoms_are s graphs items main optionals distinct matched made in
       let from = from_flat_map pattern_by here f (subst (λ es. Contains (flat_map pattern_by es) f) are m) in

@@ -1,5 +1,5 @@
 -- The places of the walks that a MATCH looks for, each with the atom of its pattern: no two stand at one token.
-use Rattle.std.proofs.Common.{◌≡◌, ◌<◌, ◌≤◌, ◌+◌, ℕ, List, [], ◌∷◌, ◌++◌, Option, Some, None, arith}
+use Rattle.std.proofs.Common.{◌≤◌, ℕ, List, [], ◌∷◌, ◌++◌, Option, Some, None, arith}
 use Rattle.gc_base.specs.declared.place.Sym.{Sym}
 use Rattle.gc_ast.specs.Trees as tree
 use Rattle.gc_ast.specs.Trees.{Tree, Named, RowOf, ABlock, ALocated, AnOptional, APattern, APathBody}
@@ -8,7 +8,7 @@ use Rattle.gc_alg.specs.declared.atom.Atom.{Atom}
 use Rattle.gc_sorts.specs.Uses.{all_of}
 use Rattle.gc_lower.specs.Chains.{next_variable, node_variable, path_atom}
 use Rattle.gc_lower.specs.Scopes.{Scope, graph_of}
-use Rattle.gc_query.specs.InOrder.{IsInOrder, IsNameIf, IsNameIn}
+use Rattle.gc_query.specs.InOrder.{IsInOrder, IsNameIf}
 use Rattle.gc_query.proofs.InOrderLaws.{Lies, lie_both, lie_wider, nothing_lies, one_lies, pattern_fine}
 
 -- the token of the name of a walk that is looked for, and the atom of its pattern
@@ -61,7 +61,8 @@ module _ (names : Names) where
   name_up from (Some x) upto h = let low = h.low in let high = h.high in omega (arith, low, high)
 
   module _ (s : Scope) where
-    body_lies : (graph from : ℕ) (x y : Sym) (body : Tree APathBody) (upto : ℕ) → IsInOrder names from body upto → Lies entry_token from (body_entries s graph x y body) upto
+    body_lies : (graph from : ℕ) (x y : Sym) (body : Tree APathBody) (upto : ℕ) → IsInOrder names from body upto
+        → Lies entry_token from (body_entries s graph x y body) upto
     unfolding IsInOrder
     body_lies graph from x y (tree.Reach regex views) upto h = nothing_lies entry_token from upto h
     body_lies graph from x y (tree.Found k path regex views cost) upto h =
@@ -71,25 +72,29 @@ module _ (names : Names) where
     body_lies graph from x y (tree.All path regex views) upto h = one_lies entry_token from (entry_at path.token (path_atom s graph x y (tree.All path regex views))) upto h.low h.high
     body_lies graph from x y (tree.Stored path labels) upto h = let low = h.low in let high = h.high in nothing_lies entry_token from upto (omega (arith, low, high))
 
-    joined_lies : (graph from : ℕ) (x y : Sym) (p : Tree APattern) (upto : ℕ) → from ≤ upto → IsInOrder names from p upto → Lies entry_token from (joined_entries s graph x y p) upto
+    joined_lies : (graph from : ℕ) (x y : Sym) (p : Tree APattern) (upto : ℕ) → from ≤ upto → IsInOrder names from p upto
+        → Lies entry_token from (joined_entries s graph x y p) upto
     unfolding IsInOrder
     joined_lies graph from x y (tree.Node e) upto up h = nothing_lies entry_token from upto up
     joined_lies graph from x y (tree.Edge way e) upto up h = nothing_lies entry_token from upto up
     joined_lies graph from x y (tree.Path token regex_at body) upto up h = body_lies graph from x y body upto h
 
-    link_lies : (graph from : ℕ) (left right : Option Sym) (p : Tree APattern) (upto : ℕ) → from ≤ upto → IsInOrder names from p upto → Lies entry_token from (link_entries s graph left right p) upto
+    link_lies : (graph from : ℕ) (left right : Option Sym) (p : Tree APattern) (upto : ℕ) → from ≤ upto → IsInOrder names from p upto
+        → Lies entry_token from (link_entries s graph left right p) upto
     link_lies graph from (Some x) (Some y) p upto up h = joined_lies graph from x y p upto up h
     link_lies graph from (Some x) None p upto up h = nothing_lies entry_token from upto up
     link_lies graph from None right p upto up h = nothing_lies entry_token from upto up
 
-    chain_lies : (graph from : ℕ) (left : Option Sym) (ps : Tree (RowOf APattern)) (upto : ℕ) → IsInOrder names from ps upto → Lies entry_token from (chain_entries s graph left ps) upto
+    chain_lies : (graph from : ℕ) (left : Option Sym) (ps : Tree (RowOf APattern)) (upto : ℕ) → IsInOrder names from ps upto
+        → Lies entry_token from (chain_entries s graph left ps) upto
     unfolding IsInOrder
     chain_lies graph from left tree.none upto h = nothing_lies entry_token from upto h
     chain_lies graph from left (tree.more p ps) upto h =
         lie_both entry_token from h.0 upto (link_entries s graph left (next_variable s ps) p) (chain_entries s graph (node_variable s p) ps)
         (link_lies graph from left (next_variable s ps) p h.0 (pattern_fine names from p h.0 h.1).uses.up h.1) (chain_lies graph h.0 (node_variable s p) ps upto h.2)
 
-    located_lies : (from : ℕ) (ls : Tree (RowOf ALocated)) (upto : ℕ) → IsInOrder names from ls upto → Lies entry_token from (all_of (located_entries s) ls) upto
+    located_lies : (from : ℕ) (ls : Tree (RowOf ALocated)) (upto : ℕ) → IsInOrder names from ls upto
+        → Lies entry_token from (all_of (located_entries s) ls) upto
     unfolding IsInOrder
     located_lies from tree.none upto h = nothing_lies entry_token from upto h
     located_lies from (tree.more (tree.Located parts on) ls) upto h =
@@ -101,13 +106,15 @@ module _ (names : Names) where
     unfolding IsInOrder
     block_lies from (tree.Block patterns filter) upto h = lie_wider entry_token from h.0 from upto (all_of (located_entries s) patterns) (omega arith) h.2 (located_lies from patterns h.0 h.1)
 
-    optionals_lie : (from : ℕ) (os : Tree (RowOf AnOptional)) (upto : ℕ) → IsInOrder names from os upto → Lies entry_token from (all_of (optional_entries s) os) upto
+    optionals_lie : (from : ℕ) (os : Tree (RowOf AnOptional)) (upto : ℕ) → IsInOrder names from os upto
+        → Lies entry_token from (all_of (optional_entries s) os) upto
     unfolding IsInOrder
     optionals_lie from tree.none upto h = nothing_lies entry_token from upto h
     optionals_lie from (tree.more (tree.Optional token b) os) upto h =
         lie_both entry_token from h.0 upto (block_entries s b) (all_of (optional_entries s) os) (block_lies from b h.0 h.1) (optionals_lie h.0 os upto h.2)
 
-    pub match_lies : (from mid : ℕ) (main : Tree ABlock) (optionals : Tree (RowOf AnOptional)) (upto : ℕ) → IsInOrder names from main mid → IsInOrder names mid optionals upto
+    pub match_lies : (from mid : ℕ) (main : Tree ABlock) (optionals : Tree (RowOf AnOptional)) (upto : ℕ) → IsInOrder names from main mid
+        → IsInOrder names mid optionals upto
         → Lies entry_token from (match_entries s main optionals) upto
     match_lies from mid main optionals upto h k =
         lie_both entry_token from mid upto (block_entries s main) (all_of (optional_entries s) optionals) (block_lies from main mid h) (optionals_lie mid optionals upto k)

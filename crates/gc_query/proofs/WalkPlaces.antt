@@ -1,5 +1,5 @@
 -- The variables of the atoms of a MATCH stand at places that are none of walks, or the atom is that of the place.
-use Rattle.std.proofs.Common.{◌≡◌, ◌⊎◌, inl, inr, ⊎_elim, ℕ, false, List, [], ◌∷◌, ◌++◌, Option, Some, None, refl, sym, subst, arith}
+use Rattle.std.proofs.Common.{◌≡◌, ◌⊎◌, inl, inr, ⊎_elim, ℕ, false, List, [], ◌∷◌, ◌++◌, Option, Some, None, refl, subst, arith}
 use Rattle.std.specs.List.{AllByRecursion, Contains, flat_map}
 use Rattle.std.proofs.lemmas.List.Elements.{Contains-append_left, Contains-append_right, Contains-append_cases}
 use Rattle.std.proofs.lemmas.Option.{none-some}
@@ -49,10 +49,12 @@ Each P a = AllByRecursion (P a) (variables_of a.what)
 abbrev pub AtomAt : Scope → List Use → List ℕ → List Entry → Atom → Type 0
 AtomAt s uses tokens entries a = Each (StandsAt s uses tokens entries) a
 
-each_weaker : (P Q : Atom → Sym → Type 0) → ((a : Atom) (x : Sym) → P a x → Q a x) → (atoms : List Atom) → AllByRecursion (Each P) atoms → AllByRecursion (Each Q) atoms
+each_weaker : (P Q : Atom → Sym → Type 0) → ((a : Atom) (x : Sym) → P a x → Q a x) → (atoms : List Atom) → AllByRecursion (Each P) atoms
+    → AllByRecursion (Each Q) atoms
 each_weaker P Q f atoms h = AllByRecursion-weaker (Each P) (Each Q) (λ a k. AllByRecursion-weaker (P a) (Q a) (f a) (variables_of a.what) k) atoms h
 
-fine_each : (P : Sym → Type 0) (Q : Atom → Sym → Type 0) → ((x : Sym) → P x → (a : Atom) → Q a x) → (graph : ℕ) (atoms : List Atom) → AllByRecursion (IsFine P graph) atoms → AllByRecursion (Each Q) atoms
+fine_each : (P : Sym → Type 0) (Q : Atom → Sym → Type 0) → ((x : Sym) → P x → (a : Atom) → Q a x) → (graph : ℕ) (atoms : List Atom)
+    → AllByRecursion (IsFine P graph) atoms → AllByRecursion (Each Q) atoms
 fine_each P Q f graph atoms h =
     AllByRecursion-weaker (IsFine P graph) (Each Q) (λ a k. AllByRecursion-weaker P (Q a) (λ x m. f x m a) (variables_of a.what) k.variables) atoms h
 
@@ -65,7 +67,8 @@ module _ (s : Scope) (us vs : List Use) (ts ks : List ℕ) (f : (u : Use) → Co
   walked_wider : (es ds : List Entry) → ((e : Entry) → Contains es e → Contains ds e) → (a : Atom) (x : Sym) → IsWalked s us es a x → IsWalked s vs ds a x
   walked_wider es ds k a x w = record { at_place = w.at_place; among = f w.at_place w.among; entry = k (entry_at w.at_place.token a) w.entry; is = w.is }
 
-  at_wider : (es ds : List Entry) → ((t : ℕ) → Contains ts t → Contains ks t) → ((e : Entry) → Contains es e → Contains ds e) → (a : Atom) (x : Sym) → StandsAt s us ts es a x → StandsAt s vs ks ds a x
+  at_wider : (es ds : List Entry) → ((t : ℕ) → Contains ts t → Contains ks t) → ((e : Entry) → Contains es e → Contains ds e) → (a : Atom) (x : Sym)
+      → StandsAt s us ts es a x → StandsAt s vs ks ds a x
   at_wider es ds g k a x h = ⊎_elim (λ p. inl (plain_wider g x p)) (λ w. inr (walked_wider es ds k a x w)) h
 
 -- nodes, edges and properties stand at no place of a walk
@@ -83,7 +86,8 @@ element_role r w (tree.Element token name labels properties) u m =
     ⊎_elim (λ k. if_role r w name u k) (λ k. property_role properties u k) (Contains-append_cases (use_if r name) (all_of property_uses properties) u m)
 
 module _ (s : Scope) where
-  element_plain : (r : Role) → is_walk_role r ≡ false → (e : Tree AnElement) (x : Sym) → Stands s (element_uses r e) (element_tokens e) x → Plain s (element_uses r e) (element_tokens e) x
+  element_plain : (r : Role) → is_walk_role r ≡ false → (e : Tree AnElement) (x : Sym) → Stands s (element_uses r e) (element_tokens e) x
+      → Plain s (element_uses r e) (element_tokens e) x
   element_plain r w e x (named u m is) = plain u m (element_role r w e u m) is
   element_plain r w e x (unnamed t m is) = bare t m is
 
@@ -104,8 +108,10 @@ module _ (s : Scope) where
   next_plain (tree.more p ps) x h = plain_left (pattern_uses p) (all_of pattern_uses ps) (pattern_tokens p) (all_of pattern_tokens ps) x (node_plain p x h)
 
   -- the atom of a path pattern
-  path_at : (graph : ℕ) (Q : Atom → Sym → Type 0) (x y : Sym) (body : Tree APathBody) → ((a : Atom) → Q a x) → ((a : Atom) → Q a y) → ((a : Atom) (z : Sym) → Plain s (body_uses body) [] z → Q a z)
-      → ((a : Atom) (z : Sym) → IsWalked s (body_uses body) (body_entries s graph x y body) a z → Q a z) → AllByRecursion (Each Q) (path_atom s graph x y body ∷ [])
+  path_at : (graph : ℕ) (Q : Atom → Sym → Type 0) (x y : Sym) (body : Tree APathBody) → ((a : Atom) → Q a x) → ((a : Atom) → Q a y)
+      → ((a : Atom) (z : Sym) → Plain s (body_uses body) [] z → Q a z)
+      → ((a : Atom) (z : Sym) → IsWalked s (body_uses body) (body_entries s graph x y body) a z → Q a z)
+      → AllByRecursion (Each Q) (path_atom s graph x y body ∷ [])
   path_at graph Q x y (tree.Reach regex views) l r f g =
       let a = path_atom s graph x y (tree.Reach regex views) in ((l a, (r a, tt)), tt)
   path_at graph Q x y (tree.Found k path regex views cost) l r f g =
@@ -126,8 +132,10 @@ module _ (s : Scope) where
       ((l a, (f a (variable_of s path.name) (plain u (contains_here u []) refl refl), (r a, tt))), tt)
 
   -- the atoms of a part of a chain
-  part_at : (graph : ℕ) (Q : Atom → Sym → Type 0) (left right : Option Sym) (p : Tree APattern) → ((a : Atom) (x : Sym) → left ≡ Some x → Q a x) → ((a : Atom) (y : Sym) → right ≡ Some y → Q a y)
-      → ((a : Atom) (z : Sym) → Plain s (pattern_uses p) (pattern_tokens p) z → Q a z) → ((a : Atom) (z : Sym) → IsWalked s (pattern_uses p) (link_entries s graph left right p) a z → Q a z)
+  part_at : (graph : ℕ) (Q : Atom → Sym → Type 0) (left right : Option Sym) (p : Tree APattern) → ((a : Atom) (x : Sym) → left ≡ Some x → Q a x)
+      → ((a : Atom) (y : Sym) → right ≡ Some y → Q a y)
+      → ((a : Atom) (z : Sym) → Plain s (pattern_uses p) (pattern_tokens p) z → Q a z)
+      → ((a : Atom) (z : Sym) → IsWalked s (pattern_uses p) (link_entries s graph left right p) a z → Q a z)
       → AllByRecursion (Each Q) (part_atoms s graph left right p)
   part_at graph Q left right (tree.Node e) l r f g =
       fine_each (Stands s (element_uses role.Node e) (element_tokens e)) Q (λ x m a. f a x (element_plain role.Node refl e x m)) graph (node_atoms s graph e) (node_stands s graph e)
@@ -165,7 +173,8 @@ module _ (s : Scope) where
       (chain_at graph (node_variable s p) ps))
 
   -- two lists of atoms, each at its own places
-  both_at : (us vs : List Use) (ts ks : List ℕ) (es ds : List Entry) (atoms others : List Atom) → AllByRecursion (AtomAt s us ts es) atoms → AllByRecursion (AtomAt s vs ks ds) others
+  both_at : (us vs : List Use) (ts ks : List ℕ) (es ds : List Entry) (atoms others : List Atom) → AllByRecursion (AtomAt s us ts es) atoms
+      → AllByRecursion (AtomAt s vs ks ds) others
       → AllByRecursion (AtomAt s (us ++ vs) (ts ++ ks) (es ++ ds)) (atoms ++ others)
   both_at us vs ts ks es ds atoms others h k =
       AllByRecursion-append (AtomAt s (us ++ vs) (ts ++ ks) (es ++ ds)) atoms others
@@ -175,7 +184,8 @@ module _ (s : Scope) where
       (at_wider s vs (us ++ vs) ks (ts ++ ks) (Contains-append_right us vs) ds (es ++ ds) (Contains-append_right ts ks) (Contains-append_right es ds)) others k)
 
   -- the atoms of chains, of blocks and of a whole MATCH
-  located_at : (located : Tree (RowOf ALocated)) → AllByRecursion (AtomAt s (all_of located_uses located) (all_of located_tokens located) (all_of (located_entries s) located)) (atoms_of s located)
+  located_at : (located : Tree (RowOf ALocated))
+      → AllByRecursion (AtomAt s (all_of located_uses located) (all_of located_tokens located) (all_of (located_entries s) located)) (atoms_of s located)
   located_at tree.none = tt
   located_at (tree.more (tree.Located parts on) located) =
       let us = all_of pattern_uses parts in
@@ -185,7 +195,8 @@ module _ (s : Scope) where
       (each_weaker (Behind us ts es None) (StandsAt s us ts es) (λ a x h. ⊎_elim (λ k. k) (λ e. absurd (none-some x e)) h) (chain_atoms s (graph_of s on) None parts) (chain_at (graph_of s on) None parts))
       (located_at located)
 
-  block_at : (around before : List ReadUse) (b : Tree ABlock) → AllByRecursion (AtomAt s (block_uses b) (block_tokens b) (block_entries s b)) (alg.atoms_of (part_of s around before b))
+  block_at : (around before : List ReadUse) (b : Tree ABlock)
+      → AllByRecursion (AtomAt s (block_uses b) (block_tokens b) (block_entries s b)) (alg.atoms_of (part_of s around before b))
   unfolding block_of part_of
   block_at around before (tree.Block patterns filter) = located_at patterns
 
