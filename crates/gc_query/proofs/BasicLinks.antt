@@ -82,7 +82,7 @@ pub record IsDistinctBasic (s : Scope) (items : Tree (RowOf AnItem)) (main : Tre
 same_var : (x y : Sym) → (x.0 == y.0) ≡ true → x ≡ y
 same_var x y t = let e : x.0 ≡ y.0 = eqb-true x.0 y.0 t in λ i. record { 0 = e i }
 
-listed_member : (xs : List Sym) (x : Sym) → lists xs x ≡ true → Contains xs x
+pub listed_member : (xs : List Sym) (x : Sym) → lists xs x ≡ true → Contains xs x
 listed_member xs x h = let any = any_member (λ (y : Sym). y.0 == x.0) xs h in subst (Contains xs) (same_var any.0 x any.2) any.1
 
 member_listed : (xs : List Sym) (x : Sym) → Contains xs x → lists xs x ≡ true
@@ -276,7 +276,7 @@ module _ (s : Scope) (graphs : List (List ℕ)) (items : Tree (RowOf AnItem)) (m
   abbrev reads : List ReadUse
   reads = ([] ++ reads_of (lower.block_atoms s main)) ++ optional_reads s optionals
 
-  abbrev block : alg.Tree alg.ABlock
+  abbrev pub block : alg.Tree alg.ABlock
   block = alg.BlockOf (alg.row parts) reads
 
   abbrev m : Making
@@ -295,7 +295,7 @@ module _ (s : Scope) (graphs : List (List ℕ)) (items : Tree (RowOf AnItem)) (m
   mk = makings_of s bound found items
 
   -- what is among the names and the tokens
-  use_name : (u : Use) → Contains uses u → Contains names u.name
+  pub use_name : (u : Use) → Contains uses u → Contains names u.name
   use_name u k = Contains-append_left (use_names uses) (use_names (all_of item_made items) ++ all_of item_stored items) u.name (to_map (λ (w : Use). w.name) uses u k)
 
   made_name : (u : Use) → Contains (all_of item_made items) u → Contains names u.name
@@ -307,10 +307,10 @@ module _ (s : Scope) (graphs : List (List ℕ)) (items : Tree (RowOf AnItem)) (m
   stored_name n k =
       Contains-append_right (use_names uses) (use_names (all_of item_made items) ++ all_of item_stored items) n (Contains-append_right (use_names (all_of item_made items)) (all_of item_stored items) n k)
 
-  match_token : (t : ℕ) → Contains ts t → Contains tokens t
+  pub match_token : (t : ℕ) → Contains ts t → Contains tokens t
   match_token t k = Contains-append_left ts (flat_map site_token sites) t k
 
-  place_use : (g : ℕ) (u : Use) → Contains places (place_on g u) → Contains uses u
+  pub place_use : (g : ℕ) (u : Use) → Contains places (place_on g u) → Contains uses u
   place_use g u k =
       ⊎_elim (λ r. Contains-append_left (block_uses main) (all_of optional_uses optionals) u (block_used s main g u r))
       (λ r. Contains-append_right (block_uses main) (all_of optional_uses optionals) u (optionals_used s optionals g u r))
@@ -323,13 +323,13 @@ module _ (s : Scope) (graphs : List (List ℕ)) (items : Tree (RowOf AnItem)) (m
       (Contains-append_cases (block_uses main) (all_of optional_uses optionals) u k)
 
   -- places of one token are one
-  one_use : (u w : Use) → Contains uses u → Contains uses w → u.token ≡ w.token → u ≡ w
+  pub one_use : (u w : Use) → Contains uses u → Contains uses w → u.token ≡ w.token → u ≡ w
   one_use u w k l h =
       let p = use_place u k in
       let q = use_place w l in
       ap (λ (x : PlaceOn). x.at_place) (distinct.places (place_on p.0 u) (place_on q.0 w) p.1 q.1 h)
 
-  unbroken_place : (u : Use) → Contains uses u → IsUnbroken (place_breaches uses u)
+  pub unbroken_place : (u : Use) → Contains uses u → IsUnbroken (place_breaches uses u)
   unbroken_place u k = each_place (place_breaches uses) uses u matched.1.0 k
 
   walk_place : (u w : Use) (g h : ℕ) → Contains places (place_on g u) → Contains places (place_on h w) → is_walk_role u.role ≡ true → w.name ≡ u.name → place_on h w ≡ place_on g u
@@ -360,10 +360,10 @@ module _ (s : Scope) (graphs : List (List ℕ)) (items : Tree (RowOf AnItem)) (m
       (λ t k. match_token t (Contains-append_right (block_tokens main) (all_of optional_tokens optionals) t k))
 
   -- the atoms of the block, which stand at its places
-  abbrev atoms : List Atom
+  abbrev pub atoms : List Atom
   atoms = flat_map alg.atoms_of parts
 
-  atoms_are : block_atoms block ≡ atoms
+  pub atoms_are : block_atoms block ≡ atoms
   atoms_are = ap (flat_map alg.atoms_of) (items_row parts)
 
   abbrev before : List ReadUse
@@ -379,7 +379,7 @@ module _ (s : Scope) (graphs : List (List ℕ)) (items : Tree (RowOf AnItem)) (m
       (stands_wider s ps (ps ++ qs) es (es ++ bs) (Contains-append_left ps qs) (Contains-append_left es bs) _ (subst (AllByRecursion (AtomStands s ps es)) (sym (part_atoms_are s [] [] main)) (block_stand s main)))
       (stands_wider s qs (ps ++ qs) bs (es ++ bs) (Contains-append_right ps qs) (Contains-append_right es bs) _ (optionals_stand s [] before optionals))
 
-  all_walk : AllByRecursion (AtomWalks s places) atoms
+  pub all_walk : AllByRecursion (AtomWalks s places) atoms
   all_walk =
       let ps = block_places s main in
       let qs = all_of (optional_places s) optionals in

@@ -106,20 +106,20 @@ mutual
   term_searched s v around (tree.QueryTerm query) parts h = refl
 
 -- what is seen of the blocks around stays es it is
-behind_uses : {k : Kind} (v : Sights) (t : Tree k) → (behind v t).uses ≡ v.uses
+pub behind_uses : {k : Kind} (v : Sights) (t : Tree k) → (behind v t).uses ≡ v.uses
 behind_uses v (tree.View g query) = refl
 behind_uses v (tree.GraphHead g query) = refl
 behind_uses v (tree.PathHead name chains filter cost) = refl
 behind_uses v other = refl
 
-all_behind : {k : Kind} (v : Sights) (ts : Tree (RowOf k)) → (behind_all v ts).uses ≡ v.uses
+pub all_behind : {k : Kind} (v : Sights) (ts : Tree (RowOf k)) → (behind_all v ts).uses ≡ v.uses
 all_behind v tree.none = refl
 all_behind v (tree.more t ts) = all_behind (behind v t) ts ∙ behind_uses v t
 
 -- a file, by the occurrences in which its unnamed elements are
 module _ (s : Scope) (os : Occurrences) (is : (t : ℕ) → s.hidden_at t ≡ hidden_from (length s.names) os t) where
   -- the names, the elements and the places of a CONSTRUCT are told apart
-  distinct : (o : occurrence.Scope) (token : ℕ) (items : Tree (RowOf AnItem)) (main : Tree ABlock) (optionals : Tree (RowOf AnOptional)) (from upto : ℕ)
+  pub distinct : (o : occurrence.Scope) (token : ℕ) (items : Tree (RowOf AnItem)) (main : Tree ABlock) (optionals : Tree (RowOf AnOptional)) (from upto : ℕ)
       → IsInOrder s.names from (tree.Basic token items main optionals) upto → ((n : ℕ) → IsUnnamedIn n (occurrences o (tree.Basic token items main optionals)) → IsUnnamedIn n os)
       → IsDistinctBasic s items main optionals
   unfolding IsInOrder occurrences
@@ -149,7 +149,7 @@ module _ (s : Scope) (os : Occurrences) (is : (t : ℕ) → s.hidden_at t ≡ hi
         sides = λ t a k l e. let low = match.fine.unnamed.low t k in let high = sites.tokens.high a l in absurd (omega (arith, low, high, e));
       }
 
-  abbrev Among : Occurrences → Type 0
+  abbrev pub Among : Occurrences → Type 0
   Among part = (n : ℕ) → IsUnnamedIn n part → IsUnnamedIn n os
 
   basic_built : (v : Sights) → v.uses ≡ [] → (o : occurrence.Scope) (basic : Tree ABasic) (from upto : ℕ) → EachHasParts basic → IsUnbroken (breaches v basic) → IsInOrder s.names from basic upto

@@ -158,7 +158,7 @@ module _ (names : Names) where
   body_fine from (tree.All path regex views) upto h = one_name from role.All path upto h
   body_fine from (tree.Stored path labels) upto h = one_name from role.Stored path upto h
 
-  pattern_fine : (from : ℕ) (p : Tree APattern) (upto : ℕ) → IsInOrder names from p upto → AreFine names from (pattern_uses p) (pattern_tokens p) upto
+  pub pattern_fine : (from : ℕ) (p : Tree APattern) (upto : ℕ) → IsInOrder names from p upto → AreFine names from (pattern_uses p) (pattern_tokens p) upto
   unfolding IsInOrder
   pattern_fine from (tree.Node e) upto h = element_fine from role.Node e upto h
   pattern_fine from (tree.Edge way e) upto h = element_fine from role.Edge e upto h

@@ -10,6 +10,7 @@ mod FreeWords
 mod Heads
 mod OneOutcome
 mod OneView
+mod OnlyFiles
 mod Outcomes
 mod PathHeads
 mod PlainViews
@@ -38,6 +39,9 @@ pub mod MatchReads
 pub mod MatchSorts
 pub mod OccurrenceLaws
 pub mod OneGraph
+pub mod OnlyPatterns
 pub mod Origins
 pub mod PlainParts
 pub mod QueryParts
+pub mod WalkEntries
+pub mod WalkPlaces

@@ -101,7 +101,7 @@ module _ (s : Scope) where
       inside us vs u y (named w m is) = named w (skip us vs u w m) is
       inside us vs u y (unnamed t m is) = unnamed t m is
 
-  node_stands : (graph : ℕ) (e : Tree AnElement) → AllByRecursion (IsFine (Stands s (element_uses role.Node e) (element_tokens e)) graph) (node_atoms s graph e)
+  pub node_stands : (graph : ℕ) (e : Tree AnElement) → AllByRecursion (IsFine (Stands s (element_uses role.Node e) (element_tokens e)) graph) (node_atoms s graph e)
   node_stands graph (tree.Element token name labels properties) = (
     record { graph_is = refl; variables = (own role.Node token name (all_of property_uses properties), tt) },
     property_stands (use_if role.Node name) (unnamed_token token name) graph (variable_or s token name) kind.Node properties (alone role.Node token name),
@@ -111,7 +111,7 @@ module _ (s : Scope) where
       alone role token None = unnamed token (contains_here token []) refl
       alone role token (Some x) = named (use_at role x) (contains_here (use_at role x) []) refl
 
-  edge_stands : (graph : ℕ) (P : Sym → Type 0) (x y : Sym) (way : Direction) (e : Tree AnElement) → P x → P y
+  pub edge_stands : (graph : ℕ) (P : Sym → Type 0) (x y : Sym) (way : Direction) (e : Tree AnElement) → P x → P y
       → ((z : Sym) → Stands s (element_uses role.Edge e) (element_tokens e) z → P z) → AllByRecursion (IsFine P graph) (edge_atoms s graph x y way e)
   edge_stands graph P x y way (tree.Element token name labels properties) px py f = (
     record { graph_is = refl; variables = (px, (f _ (own role.Edge token name (all_of property_uses properties)), (py, tt))) },
@@ -123,7 +123,7 @@ module _ (s : Scope) where
       alone role token None = unnamed token (contains_here token []) refl
       alone role token (Some x) = named (use_at role x) (contains_here (use_at role x) []) refl
 
-  cost_stands : (P : Sym → Type 0) (cost : Option Named) → ((u : Use) → Contains (use_if role.Cost cost) u → P (variable_of s u.name)) → AllByRecursion P (listed (variable_if s cost))
+  pub cost_stands : (P : Sym → Type 0) (cost : Option Named) → ((u : Use) → Contains (use_if role.Cost cost) u → P (variable_of s u.name)) → AllByRecursion P (listed (variable_if s cost))
   cost_stands P None f = tt
   cost_stands P (Some x) f = (f (use_at role.Cost x) (contains_here (use_at role.Cost x) []), tt)
 
@@ -171,7 +171,7 @@ module _ (s : Scope) where
   part_stands graph P left right (tree.Path token regex_at body) l r f = link_stands graph P left right (tree.Path token regex_at body) l r f
 
   -- the variable of a node stands at its own place
-  node_own : (p : Tree APattern) (x : Sym) → node_variable s p ≡ Some x → Stands s (pattern_uses p) (pattern_tokens p) x
+  pub node_own : (p : Tree APattern) (x : Sym) → node_variable s p ≡ Some x → Stands s (pattern_uses p) (pattern_tokens p) x
   node_own (tree.Node (tree.Element token name labels properties)) x h = subst (Stands s _ _) (same_Some _ x h) (own role.Node token name (all_of property_uses properties))
   node_own (tree.Edge way e) x h = absurd (none-some x h)
   node_own (tree.Path token regex_at body) x h = absurd (none-some x h)
