@@ -27,7 +27,6 @@ pub struct RunLog {
 
 impl Model for RunLog {
     ghost use Rattle.gc_query.specs.Logs.{Log};
-
     ghost use Rattle.gc_regx.specs.contracts.regex.Regex as expression;
     ghost use Rattle.std.specs.Coded.{codes};
 
@@ -124,7 +123,6 @@ pub(crate) struct Told {
 impl Model for Told {
     ghost use Rattle.std.specs.Prelude.{◌<◌, ◌^◌};
     ghost use Rattle.gc_query.specs.Logs.{Log};
-
     ghost use Rattle.gc_regx.specs.contracts.regex.Regex as expression;
     ghost use Rattle.std.specs.Coded.{codes};
 
