@@ -93,3 +93,15 @@ def show_walks(graph, start, walks):
         used_edges.update(steps)
         paths.append({"id": free + len(paths), "labels": [], "properties": {"cost": [cost]}, "walk": walk})
     show((full(nodes[i]) for i in sorted(used_nodes)), (full(edges[i]) for i in sorted(used_edges)), paths)
+
+
+def run_library(following, reach, reached_by_all, shortest):
+    """Runs the workload that the words name, with the searches of a library; what follows is plain Python."""
+    workloads = {
+        "pairs": lambda graph: pairs(graph, following(graph, "knows")),
+        "triangle": lambda graph: triangle(graph, following(graph, "knows")),
+        "reach": reach,
+        "all_pairs": reached_by_all,
+        "shortest": shortest,
+    }
+    workloads[sys.argv[1]](read(sys.argv[2]))

@@ -5,11 +5,9 @@
 
 It runs under Debian's Python, for which igraph is packaged; where that has no orjson, json reads and writes.
 """
-import sys
-
 import igraph
 
-from peers_graphs import all_pairs, named, pairs, read, show_some, show_walks, triangle
+from peers_graphs import all_pairs, named, run_library, show_some, show_walks
 
 
 def directed(graph, label):
@@ -54,13 +52,5 @@ def shortest(graph):
     show_walks(graph, start, walks)
 
 
-WORKLOADS = {
-    "pairs": lambda graph: pairs(graph, following(graph, "knows")),
-    "triangle": lambda graph: triangle(graph, following(graph, "knows")),
-    "reach": reach,
-    "all_pairs": reached_by_all,
-    "shortest": shortest,
-}
-
 if __name__ == "__main__":
-    WORKLOADS[sys.argv[1]](read(sys.argv[2]))
+    run_library(following, reach, reached_by_all, shortest)

@@ -5,11 +5,9 @@
 
 It runs under Debian's Python, for which networkx is packaged; where that has no orjson, json reads and writes.
 """
-import sys
-
 import networkx
 
-from peers_graphs import all_pairs, named, pairs, read, show_some, show_walks, triangle
+from peers_graphs import all_pairs, named, run_library, show_some, show_walks
 
 
 def directed(graph, label):
@@ -47,13 +45,5 @@ def shortest(graph):
     show_walks(graph, start, [(costs[to], [made.edges[ends]["id"] for ends in zip(route, route[1:])]) for to, route in routes.items()])
 
 
-WORKLOADS = {
-    "pairs": lambda graph: pairs(graph, following(graph, "knows")),
-    "triangle": lambda graph: triangle(graph, following(graph, "knows")),
-    "reach": reach,
-    "all_pairs": reached_by_all,
-    "shortest": shortest,
-}
-
 if __name__ == "__main__":
-    WORKLOADS[sys.argv[1]](read(sys.argv[2]))
+    run_library(following, reach, reached_by_all, shortest)
