@@ -6,7 +6,7 @@ A page shows an example as a line that names it, its graph files and its files, 
 
 and behind it one block for the query and, where the answer is known, one for what the program writes: first what
 goes to standard output, then the line on standard error, if there is one. The answer stands beside the query file,
-in NAME.answer. An example without an answer is of a form that is not built yet.
+in NAME.answer.
 """
 import os
 import re
@@ -30,7 +30,7 @@ class Example:
     shown: list
 
     def answer(self):
-        """What the program has to write, or None where the form is not built yet."""
+        """What the program has to write, or None where the file is missing."""
         path = self.query[: -len(".gcore")] + ".answer"
         return read(path) if os.path.isfile(path) else None
 

@@ -18,7 +18,6 @@ OTHERS = {
     "usage": "The words have no form of a command.",
     "cannot write": "The output failed: the answer is larger than this page takes.",
     "out of memory": "The program found no more memory.",
-    "not built": "The command is not built yet.",
 }
 
 

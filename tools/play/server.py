@@ -27,7 +27,6 @@ POLICY = (
     "default-src 'none'; script-src 'self'; style-src 'self'; connect-src 'self'; "
     "base-uri 'none'; form-action 'none'; frame-ancestors 'none'"
 )
-NOT_BUILT = 11
 BODY_SECONDS = 10
 PIECE = 65_536
 
@@ -37,12 +36,11 @@ def example_of(example):
     graphs = [{"name": name, "text": read(path)} for name, path in example.graphs]
     return {
         "section": example.section, "name": example.name, "query": read(example.query), "graphs": graphs,
-        "built": example.answer() is not None,
     }
 
 
 class Playground(ThreadingHTTPServer):
-    """The server, the built program that it runs, the commands that are built, and the runs of its pages."""
+    """The server, the built program that it runs, the commands that it offers, and the runs of its pages."""
 
     daemon_threads = True
     block_on_close = False
@@ -64,7 +62,7 @@ class Playground(ThreadingHTTPServer):
         out, err = ended.out.decode("utf-8", "replace"), ended.err.decode("utf-8", "replace")
         return {
             "status": ended.status, "seconds": round(ended.seconds, 3), "killed": ended.killed, "err": err, **answers.cut(out),
-            "graphs": self.graphs_of(seat, session, out) if ended.status in (0, 1, NOT_BUILT) else [],
+            "graphs": self.graphs_of(seat, session, out) if ended.status in (0, 1) else [],
             "refusal": refusals.refusal_of(err, session) if err.startswith("gcore: ") else None,
         }
 

@@ -193,8 +193,8 @@ print('{"gcore_cert":1,"searches":[{"expression":":to","graph":{"gcore":1,"nodes
 """
 
 
-def commands_that_are_built_are_offered(_, memory):
-    """Of a program that has all commands all are offered, and of a certificate the walks are told, to be lit."""
+def all_commands_are_offered(_, memory):
+    """All commands are offered, and of a certificate the walks are told, to be lit."""
     with tempfile.TemporaryDirectory() as folder, tempfile.TemporaryDirectory() as place:
         program = os.path.join(place, "stand-in")
         with open(program, "w", encoding="utf-8", opener=lambda *it: os.open(*it, 0o700)) as file:
@@ -229,6 +229,6 @@ def without_a_program_it_says_how_to_build(_, __):
 
 
 ON_THEIR_OWN = (
-    its_end_ends_what_it_started, runs_have_their_limits, commands_that_are_built_are_offered, without_dot_it_shows_tables,
+    its_end_ends_what_it_started, runs_have_their_limits, all_commands_are_offered, without_dot_it_shows_tables,
     without_a_program_it_says_how_to_build,
 )

@@ -33,8 +33,10 @@ use Rattle.gc_query.proofs.InOrderLaws.{items_made_named, items_sites_lie, match
 use Rattle.gc_query.proofs.MakeSites.{sites_of}
 use Rattle.gc_query.proofs.MatchParts.{block_tokens}
 use Rattle.gc_query.proofs.OccurrenceLaws.{block_in, items_in, optionals_in}
+use Rattle.gc_query.proofs.OnlyPatterns.{only_patterns}
 use Rattle.gc_query.proofs.PlanRuns.{left, right}
 use Rattle.gc_query.proofs.SearchedAtoms.{IsUnbroken, both_true, located_searched, unbroken}
+use Rattle.gc_query.proofs.WalkEntries.{match_lies}
 
 -- the first of some EXISTS queries, and those behind them
 take_searched : (n : ℕ) (queries : List (alg.Tree AnExists)) → are_searched (alg.row queries) ≡ true → are_searched (alg.row (take n queries)) ≡ true
@@ -154,9 +156,12 @@ module _ (s : Scope) (os : Occurrences) (is : (t : ℕ) → s.hidden_at t ≡ hi
 
   basic_built : (v : Sights) → v.uses ≡ [] → (o : occurrence.Scope) (basic : Tree ABasic) (from upto : ℕ) → EachHasParts basic → IsUnbroken (breaches v basic) → IsInOrder s.names from basic upto
       → Among (occurrences o basic) → IsBasicBuilt s basic
-  unfolding breaches
+  unfolding breaches IsInOrder
   basic_built v none o (tree.Basic token items main optionals) from upto parts h order among = record {
     searched = block_searched s v [] (tree.Basic token items main optionals) parts h;
+    only = only_patterns s (graphs_in v) token items main optionals (distinct o token items main optionals from upto order among)
+        (subst (λ us. IsUnbroken (match_breaches us main optionals)) none h.0) (subst (λ us. IsUnbroken (construct_breaches (graphs_in v) us items main optionals)) none h.1.0)
+        (match_lies s.names s order.0 order.1 main optionals upto order.3 order.4).one;
     links = basic_links s (graphs_in v) token items main optionals (distinct o token items main optionals from upto order among)
         (subst (λ us. IsUnbroken (match_breaches us main optionals)) none h.0) (subst (λ us. IsUnbroken (construct_breaches (graphs_in v) us items main optionals)) none h.1.0);
   }

@@ -10,7 +10,6 @@ mod FreeWords
 mod Heads
 mod OneOutcome
 mod OneView
-mod OnlyFiles
 mod Outcomes
 mod PathHeads
 mod PlainViews

@@ -12,6 +12,7 @@ use Rattle.gc_build.specs.Linked.{HasLinksOf}
 use Rattle.gc_build_reading.specs.FoundPaths.{found_variables}
 use Rattle.gc_build_reading.specs.Recipes.{recipe_of}
 use Rattle.gc_build_recipe.specs.Recipes.{Recipe}
+use Rattle.gc_cert_searches.specs.Patterns.{AreOnly}
 use Rattle.gc_rows.specs.Algebra.{joined_schema}
 use Rattle.gc_walks.specs.Expressions.{is_searchable}
 use Rattle.gc_lower.specs.Blocks.{block_of}
@@ -41,10 +42,11 @@ are_searched (alg.more t ts) = are_searched t && are_searched ts
 abbrev pub asked_on : Scope → ast.Tree ast.ABasic → alg.Tree ABlock → Recipe
 asked_on s basic block = recipe_of s (joined_schema [] (block_variables block)) (found_variables block) basic
 
--- a CONSTRUCT is built where its MATCH looks for walks by expressions that have automata, and what it asks for has the links of the
--- block: so what it claims is of one graph
+-- a CONSTRUCT is built where its MATCH looks for walks by expressions that have automata, each found path stands at one pattern of it, and
+-- what it asks for has the links of the block: so what it claims is of one graph
 pub record IsBasicBuilt (s : Scope) (basic : ast.Tree ast.ABasic) : Type 0 where
   pub searched : are_searched (block_of s [] basic) ≡ true
+  pub only : AreOnly (block_of s [] basic)
   pub links : HasLinksOf (block_of s [] basic) (alg.reads_of (block_of s [] basic)) (asked_on s basic (block_of s [] basic))
 
 -- a file is built, as the grammar and the sort rules let none not be

@@ -7,7 +7,6 @@ pub mod Expressions
 pub mod InOrder
 pub mod Logged
 pub mod Logs
-pub mod OnePatterns
 pub mod Outcomes
 pub mod Queries
 pub mod Segments

@@ -6,8 +6,7 @@ use Rattle.gc_ast.specs.Trees.{Tree, AHead, PathHead, GraphHead}
 use Rattle.gc_base.specs.Words.{is_word}
 use Rattle.gc_catalog.specs.NamedGraphs.{name_at}
 use Rattle.gc_cert.specs.declared.document.SearchDoc.{SearchDoc}
-use Rattle.gc_cert_searches.specs.Patterns.{AreOnly}
-use Rattle.gc_cert_searches.specs.Searches.{AreSearchesOf, IsAccepted, matched}
+use Rattle.gc_cert_searches.specs.Searches.{AreLow, AreSearchesOf, IsAccepted, matched}
 use Rattle.gc_explain_query.specs.QueryLines.{AView, query_lines}
 use Rattle.gc_lower.specs.Blocks.{block_of}
 use Rattle.gc_lower.specs.Scopes.{Scope}
@@ -74,11 +73,12 @@ abbrev pub explained_after : Scope → (before : ℕ) → List Evaluation → Li
 explained_after s before [] = []
 explained_after s before (e ∷ later) = explained s (before + 1) e ∷ explained_after s (before + 1) later
 
--- the documents of the searches for the walks that the table of a MATCH binds, by its block: exactly these where each found path has one
--- pattern, as the sort rules demand; and each is accepted
+-- the documents of the searches for the walks that the table of a MATCH binds, by its block: exactly these, each accepted, with costs
+-- below 2^127
 pub record AreSearched (block : alg.Tree alg.ABlock) (graphs : List PropertyGraph) (segments : List Segments) (table : Relation) (docs : List SearchDoc) : Type 0 where
-  pub exact : AreOnly block → AreSearchesOf (matched graphs segments table) block docs
+  pub exact : AreSearchesOf (matched graphs segments table) block docs
   pub accepted : AllByRecursion IsAccepted docs
+  pub low : AllByRecursion AreLow docs
 
 -- those of a CONSTRUCT, and of CONSTRUCTs one after another
 abbrev pub SearchedIn : Scope → Evaluation → List SearchDoc → Type 0

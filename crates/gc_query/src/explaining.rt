@@ -5,6 +5,7 @@ ghost use Rattle.gc_alg.specs.Tables.{IsTableOfBlock};
 ghost use Rattle.gc_alg.specs.Views.{block_tree};
 ghost use Rattle.gc_ast.specs.QueryViews.{head_tree};
 ghost use Rattle.gc_ast.specs.PatternViews.{named};
+ghost use Rattle.gc_cert_searches.specs.Patterns.{AreOnly};
 ghost use Rattle.gc_explain_query.specs.QueryLines.{view_of};
 ghost use Rattle.gc_query.specs.Answered.{names_in, scope_in};
 ghost use Rattle.gc_exec.specs.Runs.{setting};
@@ -42,6 +43,7 @@ pub(crate) fn tell<L: Ledger>(
     steps: &mut Steps<L>,
 ) -> Result<(), Memory>
     requires searched { are_searched (block_tree block.now) ≡ true }
+    requires only { AreOnly (block_tree block.now) }
     requires there { AreOnGraphs graphs.now segments.now }
     requires matched { IsTableOfBlock (setting graphs.now segments.now (block_tree block.now) []) table.now }
     ensures { OnOk result (IsToldOf (scope_in session.now) named.now.names graphs.now (block_tree block.now) segments.now table.now told.old told.new) }

@@ -8,7 +8,6 @@ ghost use Rattle.gc_query.specs.Evaluations.{Evaluation};
 ghost use Rattle.gc_query.specs.Expressions.{EachHasParts};
 ghost use Rattle.gc_query.specs.InOrder.{IsInOrder};
 ghost use Rattle.gc_query.specs.Logs.{IsGained, Log};
-ghost use Rattle.gc_query.specs.OnePatterns.{AreAtOnePattern};
 ghost use Rattle.gc_query.specs.Sessions.{Answer, Answers};
 ghost use Rattle.gc_query.specs.Standings.{Standing};
 
@@ -19,17 +18,11 @@ pub fn a_statement_comes_to_one_answer()
 
 /// A query file is built where it breaks no sort rule, where no juxtaposition in its regular path expressions is of no
 /// parts, and where its names and elements stand in the order of the text and its names are in its table, as the
-/// grammar has it. So what its CONSTRUCTs claim is of one graph.
+/// grammar has it. So what its CONSTRUCTs claim is of one graph, and each found path stands at one pattern: in the block
+/// of the MATCH of each CONSTRUCT, of all atoms only a pattern that asks for one walk has the variable of this walk.
 pub fn a_file_that_breaks_no_rule_is_built()
     ensures { (f : QueryFile) (upto : ℕ) → EachHasParts (row f.statements) → IsInOrder f.names 0 (row f.statements) upto
         → first_breach f.graphs (row f.statements) ≡ None → AreBuilt f }
-{}
-
-/// In a query file that breaks no sort rule, as above, each found path stands at one pattern: in the block of the MATCH
-/// of each CONSTRUCT, of all atoms only a pattern that asks for one walk has the variable of this walk.
-pub fn found_paths_stand_at_one_pattern_each()
-    ensures { (f : QueryFile) (upto : ℕ) → IsInOrder f.names 0 (row f.statements) upto
-        → first_breach f.graphs (row f.statements) ≡ None → AreAtOnePattern f }
 {}
 
 /// What a log gains of some CONSTRUCTs, and then of others, is what it gains of all of them in turn.

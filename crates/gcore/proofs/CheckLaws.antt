@@ -15,7 +15,7 @@ use Rattle.gcore.specs.Steps.{StopsReading}
 use Rattle.gcore.specs.declared.command.Command.{Command}
 use Rattle.gcore.specs.declared.command.Command.TheVariants.{Check}
 use Rattle.gcore.specs.declared.stop.Stop.{Stop}
-use Rattle.gcore.specs.declared.stop.Stop.TheVariants.{Usage, Unread, TooLarge, Refused, Text, Sorts, Certificate, Rejected, NotBuilt, Faulted, Unwritten, OutOfMemory}
+use Rattle.gcore.specs.declared.stop.Stop.TheVariants.{Usage, Unread, TooLarge, Refused, Text, Sorts, Certificate, Rejected, Faulted, Unwritten, OutOfMemory}
 use Rattle.gcore.proofs.RunLaws.{still}
 
 module _ (document : List ℕ) where
@@ -44,7 +44,6 @@ module _ (document : List ℕ) where
   reading_stops told before after faults taken (Sorts rule place) h = absurd h
   reading_stops told before after faults taken (Certificate refusal) h = absurd h
   reading_stops told before after faults taken (Rejected search rule) h = absurd h
-  reading_stops told before after faults taken NotBuilt h = absurd h
   reading_stops told before after faults taken (Faulted fault) h = absurd h
   reading_stops told before after faults taken Unwritten h = absurd h
   reading_stops None before after faults taken OutOfMemory h = tt
@@ -86,7 +85,6 @@ module _ (document : List ℕ) where
           by o is (Err (Sorts rule place)) w = absurd w
           by o is (Err (Certificate refusal)) w = absurd w
           by o is (Err (Rejected search rule)) w = absurd w
-          by o is (Err NotBuilt) w = absurd w
           by o is (Err (Faulted fault)) w = absurd w
 
     -- a document that was not accepted

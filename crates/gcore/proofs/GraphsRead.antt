@@ -21,7 +21,7 @@ use Rattle.gcore.specs.Pairs.{has_name, names_differ, are_graphs}
 use Rattle.gcore.specs.Steps.{Reading, StopsReadingGraph}
 use Rattle.gcore.specs.declared.pair.Pair.{Pair}
 use Rattle.gcore.specs.declared.stop.Stop.{Stop}
-use Rattle.gcore.specs.declared.stop.Stop.TheVariants.{Usage, Unread, TooLarge, Refused, Text, Sorts, Certificate, Rejected, NotBuilt, Faulted, Unwritten, OutOfMemory}
+use Rattle.gcore.specs.declared.stop.Stop.TheVariants.{Usage, Unread, TooLarge, Refused, Text, Sorts, Certificate, Rejected, Faulted, Unwritten, OutOfMemory}
 use Rattle.gcore.proofs.CommandLaws.{drop_item}
 
 -- the items before a place, with the item there
@@ -126,7 +126,6 @@ stops told pairs before p after seen gs first middle last (Text refusal) split s
 stops told pairs before p after seen gs first middle last (Sorts rule place) split stands due le h = absurd h
 stops told pairs before p after seen gs first middle last (Certificate refusal) split stands due le h = absurd h
 stops told pairs before p after seen gs first middle last (Rejected search rule) split stands due le h = absurd h
-stops told pairs before p after seen gs first middle last NotBuilt split stands due le h = absurd h
 stops told pairs before p after seen gs first middle last (Faulted fault) split stands due le h = absurd h
 stops told pairs before p after seen gs first middle last Unwritten split stands due le h = absurd h
 stops told pairs before p after seen gs first middle last OutOfMemory split stands due le h = tt

@@ -1,6 +1,6 @@
 pub mod CommandLaws
-pub mod ExplainLaws
-pub mod ExplainedCalls
+pub mod EndTextLaws
+pub mod EndTextCalls
 pub mod LogLaws
 pub mod GraphsRead
 pub mod RunLaws

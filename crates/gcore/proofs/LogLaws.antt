@@ -20,7 +20,7 @@ use Rattle.gc_spec.specs.PropertyGraph.{PropertyGraph}
 use Rattle.gcore.specs.LoggedSessions.{HasLog, LogsSession, LogsStatement, IsFaulted, IsTold}
 use Rattle.gcore.specs.Outcomes.{Prints, Request, beginning}
 use Rattle.gcore.specs.declared.stop.Stop.{Stop}
-use Rattle.gcore.specs.declared.stop.Stop.TheVariants.{Usage, Unread, TooLarge, Refused, Text, Sorts, Certificate, Rejected, NotBuilt, Faulted, Unwritten, OutOfMemory}
+use Rattle.gcore.specs.declared.stop.Stop.TheVariants.{Usage, Unread, TooLarge, Refused, Text, Sorts, Certificate, Rejected, Faulted, Unwritten, OutOfMemory}
 use Rattle.gcore.specs.declared.style.Style.TheVariants as style
 use Rattle.gcore.proofs.StatementLaws.{view_stands}
 use Rattle.gcore.proofs.SessionLaws.{IsSoFar, all_done, at_first, drop_at, ends, one_more}
@@ -122,11 +122,13 @@ module _ (r : Request) (names : List (Option (List ℕ))) (wants : Wants) where
     pub logged : drop i statements ≡ [] → HasLog names r wants log
     logged over =
         record {
-          graphs = far.graphs;
           all = far.all;
-          prints = all_done r i (standing c) far.graphs far.so_far over;
-          evaluated = subst (EvaluatesAll scope names (beginning r.graphs) statements) (append-nil far.all)
-              (far.leads [] (subst (λ sts. EvaluatesAll scope c.names (standing c) sts []) (sym over) (none_evaluated (standing c) c.names)));
+          evaluated = record {
+            graphs = far.graphs;
+            prints = all_done r i (standing c) far.graphs far.so_far over;
+            evaluated = subst (EvaluatesAll scope names (beginning r.graphs) statements) (append-nil far.all)
+                (far.leads [] (subst (λ sts. EvaluatesAll scope c.names (standing c) sts []) (sym over) (none_evaluated (standing c) c.names)));
+          };
           gained = far.gained;
         }
 
@@ -143,7 +145,6 @@ module _ (r : Request) (names : List (Option (List ℕ))) (wants : Wants) where
     stops statement there after later (Sorts rule place) h = absurd h
     stops statement there after later (Certificate refusal) h = absurd h
     stops statement there after later (Rejected search rule) h = absurd h
-    stops statement there after later NotBuilt h = absurd h
     stops statement there after later Unwritten h = absurd h
 
   -- the same of what a session that stops answers

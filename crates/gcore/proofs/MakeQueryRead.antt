@@ -22,7 +22,7 @@ use Rattle.gcore.specs.MakeQueries.{made_name, make_query}
 use Rattle.gc_sorts.specs.declared.checked.Checked.{Checked}
 use Rattle.gcore.specs.QueryFiles.{IsFileOf, PlacedFile, query_file_in, query_file_of}
 use Rattle.gcore.specs.declared.stop.Stop.{Stop}
-use Rattle.gcore.specs.declared.stop.Stop.TheVariants.{Usage, Unread, TooLarge, Refused, Text, Sorts, Certificate, Rejected, NotBuilt, Faulted, Unwritten, OutOfMemory}
+use Rattle.gcore.specs.declared.stop.Stop.TheVariants.{Usage, Unread, TooLarge, Refused, Text, Sorts, Certificate, Rejected, Faulted, Unwritten, OutOfMemory}
 
 -- whether a byte is ASCII
 is_low : ℕ → Bool
@@ -71,7 +71,6 @@ memory_alone (Ok due) file is (TooLarge name) h = absurd h
 memory_alone (Ok due) file is (Refused refusal name) h = absurd h
 memory_alone (Ok due) file is (Certificate refusal) h = absurd h
 memory_alone (Ok due) file is (Rejected search rule) h = absurd h
-memory_alone (Ok due) file is NotBuilt h = absurd h
 memory_alone (Ok due) file is (Faulted fault) h = absurd h
 memory_alone (Ok due) file is Unwritten h = absurd h
 

@@ -7,16 +7,16 @@ use Rattle.gc_base.specs.Faults.{Rose}
 use Rattle.gc_base.specs.Files.{Files}
 use Rattle.std.specs.Io.KnownBytes.{append_known}
 use Rattle.gc_spec.specs.PropertyGraph.{PropertyGraph}
-use Rattle.gcore.specs.Outcomes.{Explains, IsAsked, Request, Runs, Task, command_due, graph_names, graphs_due, outcome, query_file_due, request, run_due, task_due, texts, then_due}
+use Rattle.gcore.specs.Outcomes.{Certifies, Explains, IsAsked, Request, Runs, Task, command_due, graph_names, graphs_due, outcome, query_file_due, request, run_due, task_due, texts, then_due}
 use Rattle.gcore.specs.Endings.{Answers, Call, Change, GainsDuePrefix, GainsNothing, GainsPrefix, HoldsText, HoldsTexts, IsTurnOf, IsTurnOfGraph, IsTurnOfItsQuery, IsTurnOfItsSession, IsTurnOfQuery, MayBegin, RunsSession, StopsFor, WritesBeginning, graphs_of}
 use Rattle.gcore.specs.GraphSteps.{StopsReadingGraphs}
 use Rattle.gcore.specs.QueryFiles.{PlacedFile}
 use Rattle.gcore.specs.Steps.{StopsReadingQuery}
 use Rattle.gcore.specs.declared.command.Command.{Command}
-use Rattle.gcore.specs.declared.command.Command.TheVariants.{Explain, Run}
+use Rattle.gcore.specs.declared.command.Command.TheVariants.{Cert, Explain, Run}
 use Rattle.gcore.specs.declared.pair.Pair.{Pair}
 use Rattle.gcore.specs.declared.stop.Stop.{Stop}
-use Rattle.gcore.specs.declared.stop.Stop.TheVariants.{Usage, Unread, TooLarge, Refused, Text, Sorts, Certificate, Rejected, NotBuilt, Faulted, Unwritten, OutOfMemory}
+use Rattle.gcore.specs.declared.stop.Stop.TheVariants.{Usage, Unread, TooLarge, Refused, Text, Sorts, Certificate, Rejected, Faulted, Unwritten, OutOfMemory}
 use Rattle.gcore.specs.declared.style.Style.TheVariants as style
 
 -- a sink that was not called
@@ -48,7 +48,12 @@ ran command told before after out r some turn asked (Err (Text refusal)) w = abs
 ran command told before after out r some turn asked (Err (Sorts rule place)) w = absurd w
 ran command told before after out r some turn asked (Err (Certificate refusal)) w = absurd w
 ran command told before after out r some turn asked (Err (Rejected search rule)) w = absurd w
-ran command told before after out r some turn asked (Err NotBuilt) w = absurd w
+
+-- the query file that was read over these names, with what the folder told before
+pub file_read : (told before : Option Files) (names graphs : List (List ℕ)) (query : List ℕ) (file : PlacedFile) → told ≡ before → names ≡ graphs → IfSome told (λ files. query_file_due names files query ≡ Ok file)
+    → IfSome before (λ files. query_file_due graphs files query ≡ Ok file)
+file_read told before names graphs query file kept same read =
+    subst (λ ns. IfSome before (λ files. query_file_due ns files query ≡ Ok file)) same (subst (λ (t : Option Files). IfSome t (λ files. query_file_due names files query ≡ Ok file)) kept read)
 
 -- a command reads graph files and a query file, and is asked for something that is over the session of these
 pub record IsOverFiles (query : List ℕ) (pairs : List Pair) (command : Command) (task : Request → Task) : Type 0 where
@@ -59,6 +64,9 @@ pub record IsOverFiles (query : List ℕ) (pairs : List Pair) (command : Command
 
 pub is_run : (query : List ℕ) (pairs : List Pair) → IsOverFiles query pairs (Run query pairs) Runs
 is_run query pairs = record { asks = λ files. refl; turns = λ told file h. h; graphs = λ told file h. h; its_query = λ told h. h }
+
+pub is_cert : (query : List ℕ) (pairs : List Pair) → IsOverFiles query pairs (Cert query pairs) Certifies
+is_cert query pairs = record { asks = λ files. refl; turns = λ told file h. h; graphs = λ told file h. h; its_query = λ told h. h }
 
 pub is_explain : (query : List ℕ) (pairs : List Pair) → IsOverFiles query pairs (Explain query pairs) Explains
 is_explain query pairs = record { asks = λ files. refl; turns = λ told file h. h; graphs = λ told file h. h; its_query = λ told h. h }
@@ -127,7 +135,6 @@ module _ (query : List ℕ) (pairs : List Pair) (command : Command) (task : Requ
   query_stops (Some files) gs before middle after faults taken (Sorts rule place) graphs le h = (is.its_query (Some files) (refl, subst IsOk (sym graphs) refl), due_stop files gs (Sorts rule place) graphs h, refl)
   query_stops told gs before middle after faults taken (Certificate refusal) graphs le h = absurd h
   query_stops told gs before middle after faults taken (Rejected search rule) graphs le h = absurd h
-  query_stops told gs before middle after faults taken NotBuilt graphs le h = absurd h
   query_stops told gs before middle after faults taken (Faulted fault) graphs le h = absurd h
   query_stops told gs before middle after faults taken Unwritten graphs le h = absurd h
   query_stops told gs before middle after faults taken OutOfMemory graphs le h = nothing_is_prefix told before after (still faults taken) refl
@@ -153,7 +160,6 @@ module _ (query : List ℕ) (pairs : List Pair) (command : Command) (task : Requ
   graph_stops told before after faults taken (Sorts rule place) h = absurd h
   graph_stops told before after faults taken (Certificate refusal) h = absurd h
   graph_stops told before after faults taken (Rejected search rule) h = absurd h
-  graph_stops told before after faults taken NotBuilt h = absurd h
   graph_stops told before after faults taken (Faulted fault) h = absurd h
   graph_stops told before after faults taken Unwritten h = absurd h
   graph_stops told before after faults taken OutOfMemory h = nothing_is_prefix told before after (still faults taken) refl

@@ -22,7 +22,7 @@ use Rattle.gcore.specs.Outcomes.{Prints, PrintsFirst, Request, beginning, printe
 use Rattle.gcore.specs.QueryFiles.{PlacedFile}
 use Rattle.gcore.specs.SessionSteps.{GoesWell, HoldsPrinted, IsAtFault, IsCut, IsPrinted, RunsStatement, RunsStatementAt, Turn}
 use Rattle.gcore.specs.declared.stop.Stop.{Stop}
-use Rattle.gcore.specs.declared.stop.Stop.TheVariants.{Usage, Unread, TooLarge, Refused, Text, Sorts, Certificate, Rejected, NotBuilt, Faulted, Unwritten, OutOfMemory}
+use Rattle.gcore.specs.declared.stop.Stop.TheVariants.{Usage, Unread, TooLarge, Refused, Text, Sorts, Certificate, Rejected, Faulted, Unwritten, OutOfMemory}
 use Rattle.gcore.specs.declared.style.Style.{Style}
 
 -- texts behind texts
@@ -213,7 +213,6 @@ module _ (r : Request) where
     stops Unwritten h = cut h
     stops OutOfMemory h = wanting h
     stops (Faulted fault) h = at_fault (Faulted fault) h
-    stops NotBuilt h = absurd h
     stops Usage h = absurd h
     stops (Unread file) h = absurd h
     stops (TooLarge file) h = absurd h

@@ -16,7 +16,7 @@ use Rattle.gcore.specs.Endings.{Change, Gains, GainsPrefix, WritesText}
 use Rattle.gcore.specs.Outcomes.{printed, texts}
 use Rattle.gcore.specs.SessionSteps.{HoldsPrinted, IsPrinted, RunsStatementAt, Turn}
 use Rattle.gcore.specs.declared.stop.Stop.{Stop}
-use Rattle.gcore.specs.declared.stop.Stop.TheVariants.{Usage, Unread, TooLarge, Refused, Text, Sorts, Certificate, Rejected, NotBuilt, Faulted, Unwritten, OutOfMemory}
+use Rattle.gcore.specs.declared.stop.Stop.TheVariants.{Usage, Unread, TooLarge, Refused, Text, Sorts, Certificate, Rejected, Faulted, Unwritten, OutOfMemory}
 use Rattle.gcore.specs.declared.style.Style.{Style}
 use Rattle.gcore.proofs.SessionLaws.{known_nothing, same_room}
 
@@ -69,7 +69,6 @@ module _ (s : Scope) (sts : List (Tree AStatement)) (i : ℕ) (before after : Na
     prints g (Err (Sorts rule place)) step w room calm = absurd w
     prints g (Err (Certificate refusal)) step w room calm = absurd w
     prints g (Err (Rejected search rule)) step w room calm = absurd w
-    prints g (Err NotBuilt) step w room calm = absurd w
     prints g (Err (Faulted fault)) step w room calm = absurd w
 
   -- what stands behind a statement that names a graph; a query statement names none

@@ -15,11 +15,12 @@ use Rattle.gc_check_text.specs.Outcomes.{IsOutcome}
 use Rattle.gc_check_text.specs.declared.refusal.CheckRefusal.{CheckRefusal}
 use Rattle.gc_check_text.specs.declared.refusal.CheckRefusal.TheVariants as check
 use Rattle.gcore.specs.CertificateLines.{IsHeldCertificate, IsHeldSearch, accepted_line}
+use Rattle.gcore.specs.Certifications.{IsCertified}
 use Rattle.gcore.specs.FaultLines.{IsHeldFault, walk_text}
 use Rattle.gcore.specs.GraphLines.{IsHeld}
 use Rattle.gcore.specs.Lines.{line_of, status_of}
 use Rattle.gcore.specs.Explanations.{IsExplained}
-use Rattle.gcore.specs.Outcomes.{Checks, Explains, IsOverSession, IsToCheck, Prints, PrintsFirst, Request, Runs, Task, graphs_due, make_due, outcome, texts}
+use Rattle.gcore.specs.Outcomes.{Certifies, Checks, Explains, IsOverSession, IsToCheck, Prints, PrintsFirst, Request, Runs, Task, graphs_due, make_due, outcome, texts}
 use Rattle.gcore.specs.QueryFiles.{place_at}
 use Rattle.gcore.specs.TextLines.{IsHeldPlace, IsHeldText}
 use Rattle.gcore.specs.declared.command.Command.{Command}
@@ -29,7 +30,7 @@ use Rattle.gcore.specs.declared.placed_fault.PlacedFault.TheVariants.{Undefined,
 use Rattle.gcore.specs.declared.status.Status.{Status}
 use Rattle.gcore.specs.declared.status.Status.TheVariants.{Done}
 use Rattle.gcore.specs.declared.stop.Stop.{Stop}
-use Rattle.gcore.specs.declared.stop.Stop.TheVariants.{Usage, Unread, TooLarge, Refused, Text, Sorts, Certificate, Rejected, NotBuilt, Faulted, Unwritten, OutOfMemory}
+use Rattle.gcore.specs.declared.stop.Stop.TheVariants.{Usage, Unread, TooLarge, Refused, Text, Sorts, Certificate, Rejected, Faulted, Unwritten, OutOfMemory}
 
 -- a sink before and after a call: its count of faults, and what it took, where it tells that
 pub record Change : Type 0 where
@@ -115,11 +116,12 @@ ReadFault call = Rose call.faults_before call.faults_after
 abbrev pub IsDue : Call → Stop → Type 0
 IsDue call stop = IfSome call.files (λ files. outcome call.command files ≡ Err stop)
 
--- a text of which the beginning may have been written: the texts of what the first statements print; the lines that explain a session; or the
--- line of a document that is accepted
+-- a text of which the beginning may have been written: the texts of what the first statements print; the lines that explain a session; its
+-- certificate; or the line of a document that is accepted
 abbrev pub MayBegin : Task → List ℕ → Type 0
 MayBegin (Runs r) text = (graphs : List PropertyGraph) × PrintsFirst r graphs × (text ≡ texts r.style graphs)
 MayBegin (Explains r) text = IsExplained r text
+MayBegin (Certifies r) text = IsCertified r text
 MayBegin (Checks bytes) text = (searches : ℕ) × IsOutcome bytes (Ok searches) × (text ≡ accepted_line searches)
 
 -- where the files are told, `out` gained nothing, or the beginning of such a text
@@ -128,10 +130,11 @@ GainsDuePrefix call =
     IfSome call.files (λ files. GainsNothing call.out
     ⊎ ((task : Task) × (text : List ℕ) × (outcome call.command files ≡ Ok task) × MayBegin task text × GainsPrefix call.out text))
 
--- what a call does ends at the fault of a stop: its texts before were written, but nothing of what explains a session
+-- what a call does ends at the fault of a stop: its texts before were written, but nothing of what explains or certifies a session
 abbrev pub FaultsAt : Task → Change → Stop → Type 0
 FaultsAt (Runs r) out stop = EndsAtFault r out stop
 FaultsAt (Explains r) out stop = EndsSilently r out stop
+FaultsAt (Certifies r) out stop = EndsSilently r out stop
 FaultsAt (Checks bytes) out stop = ⊥
 
 abbrev pub FaultIsDue : Call → Stop → Type 0
@@ -153,14 +156,14 @@ IsTurnOfQuery told query pairs file = (file ≡ query) × IfSome told (λ files.
 -- the graph files of a command that reads them
 abbrev pub graphs_of : Command → List Pair
 graphs_of (Run query pairs) = pairs
-graphs_of (Cert query pairs) = []
+graphs_of (Cert query pairs) = pairs
 graphs_of (Explain query pairs) = pairs
 graphs_of (Check document) = []
 graphs_of (Make kind size start) = []
 
 abbrev pub IsTurnOf : Option Files → Command → List ℕ → Type 0
 IsTurnOf told (Run query pairs) file = IsTurnOfGraph told pairs file ⊎ IsTurnOfQuery told query pairs file
-IsTurnOf told (Cert query pairs) file = ⊥
+IsTurnOf told (Cert query pairs) file = IsTurnOfGraph told pairs file ⊎ IsTurnOfQuery told query pairs file
 IsTurnOf told (Explain query pairs) file = IsTurnOfGraph told pairs file ⊎ IsTurnOfQuery told query pairs file
 IsTurnOf told (Check document) file = file ≡ document
 IsTurnOf told (Make kind size start) file = ⊥
@@ -168,15 +171,15 @@ IsTurnOf told (Make kind size start) file = ⊥
 -- the turn of the query file of a command that reads one comes
 abbrev pub IsTurnOfItsQuery : Option Files → Command → Type 0
 IsTurnOfItsQuery told (Run query pairs) = IsTurnOfQuery told query pairs query
-IsTurnOfItsQuery told (Cert query pairs) = ⊥
+IsTurnOfItsQuery told (Cert query pairs) = IsTurnOfQuery told query pairs query
 IsTurnOfItsQuery told (Explain query pairs) = IsTurnOfQuery told query pairs query
 IsTurnOfItsQuery told (Check document) = ⊥
 IsTurnOfItsQuery told (Make kind size start) = ⊥
 
--- the turn of the session of a command that runs or explains one comes: with its query file; that of `make` has no file to wait for
+-- the turn of the session of a command that has one comes: with its query file; that of `make` has no file to wait for
 abbrev pub IsTurnOfItsSession : Option Files → Command → Type 0
 IsTurnOfItsSession told (Run query pairs) = IsTurnOfQuery told query pairs query
-IsTurnOfItsSession told (Cert query pairs) = ⊥
+IsTurnOfItsSession told (Cert query pairs) = IsTurnOfQuery told query pairs query
 IsTurnOfItsSession told (Explain query pairs) = IsTurnOfQuery told query pairs query
 IsTurnOfItsSession told (Check document) = ⊥
 IsTurnOfItsSession told (Make kind size start) = ⊤
@@ -205,14 +208,6 @@ HasDocument (Explain query pairs) = ⊥
 HasDocument (Check document) = ⊤
 HasDocument (Make kind size start) = ⊥
 
--- a command that is not built yet
-abbrev pub IsUnbuilt : Command → Type 0
-IsUnbuilt (Run query pairs) = ⊥
-IsUnbuilt (Cert query pairs) = ⊤
-IsUnbuilt (Explain query pairs) = ⊥
-IsUnbuilt (Check document) = ⊥
-IsUnbuilt (Make kind size start) = ⊥
-
 -- a file can't be read: where the files are told that is due, or the folder's count rose; else the count rose
 abbrev pub IsUnread : Call → List ℕ → Type 0
 IsUnread call file = MatchOption call.files (ReadFault call) (λ files. (outcome call.command files ≡ Err (Unread file)) ⊎ ReadFault call)
@@ -227,16 +222,16 @@ StopsFor call (Text refusal) = IsReachedQuery call × IsDue call (Text refusal) 
 StopsFor call (Sorts rule place) = IsReachedQuery call × IsDue call (Sorts rule place) × GainsNothing call.out
 StopsFor call (Certificate refusal) = IsSomeAnd call.command HasDocument × IsCheckedAs call (Err (check.Cert refusal)) × GainsNothing call.out
 StopsFor call (Rejected search rule) = IsSomeAnd call.command HasDocument × IsCheckedAs call (Err (check.Rejected search rule)) × GainsNothing call.out
-StopsFor call NotBuilt = IsSomeAnd call.command IsUnbuilt × IsDue call NotBuilt × GainsNothing call.out
 StopsFor call (Faulted fault) = IsReachedSession call × FaultIsDue call (Faulted fault)
 StopsFor call Unwritten = IsSome call.command × Failed call.out × GainsDuePrefix call
 StopsFor call OutOfMemory = GainsDuePrefix call
 
--- what a call has to do comes to this text: the texts of the graphs that the session prints; the lines that explain it; or the line of a
--- document that is accepted
+-- what a call has to do comes to this text: the texts of the graphs that the session prints; the lines that explain it; its certificate; or
+-- the line of a document that is accepted
 abbrev pub ComesTo : Task → List ℕ → Type 0
 ComesTo (Runs r) text = (graphs : List PropertyGraph) × Prints r graphs None × (text ≡ texts r.style graphs)
 ComesTo (Explains r) text = IsExplained r text
+ComesTo (Certifies r) text = IsCertified r text
 ComesTo (Checks bytes) text = (searches : ℕ) × IsOutcome bytes (Ok searches) × (text ≡ accepted_line searches)
 
 -- the call did what is due: where the files are told, `out` gained exactly the text that this comes to
@@ -265,7 +260,7 @@ graph_files (Some command) = map (λ (p : Pair). p.file) (graphs_of command)
 abbrev pub named_files : Option Command → List (List ℕ)
 named_files None = []
 named_files (Some (Run query pairs)) = query ∷ map (λ (p : Pair). p.file) pairs
-named_files (Some (Cert query pairs)) = []
+named_files (Some (Cert query pairs)) = query ∷ map (λ (p : Pair). p.file) pairs
 named_files (Some (Explain query pairs)) = query ∷ map (λ (p : Pair). p.file) pairs
 named_files (Some (Check document)) = document ∷ []
 named_files (Some (Make kind size start)) = []
@@ -273,15 +268,15 @@ named_files (Some (Make kind size start)) = []
 -- a command reads a query file
 abbrev pub HasQuery : Command → Type 0
 HasQuery (Run query pairs) = ⊤
-HasQuery (Cert query pairs) = ⊥
+HasQuery (Cert query pairs) = ⊤
 HasQuery (Explain query pairs) = ⊤
 HasQuery (Check document) = ⊥
 HasQuery (Make kind size start) = ⊥
 
--- a command runs a session, or explains one
+-- a command has a session, which it runs, explains or certifies
 abbrev pub HasSession : Command → Type 0
 HasSession (Run query pairs) = ⊤
-HasSession (Cert query pairs) = ⊥
+HasSession (Cert query pairs) = ⊤
 HasSession (Explain query pairs) = ⊤
 HasSession (Check document) = ⊥
 HasSession (Make kind size start) = ⊤

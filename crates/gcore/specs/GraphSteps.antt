@@ -11,7 +11,7 @@ use Rattle.gcore.specs.TextLines.{IsHeldPlace, IsHeldText}
 use Rattle.gcore.specs.Steps.{Reading}
 use Rattle.gcore.specs.declared.pair.Pair.{Pair}
 use Rattle.gcore.specs.declared.stop.Stop.{Stop}
-use Rattle.gcore.specs.declared.stop.Stop.TheVariants.{Usage, Unread, TooLarge, Refused, Text, Sorts, Certificate, Rejected, NotBuilt, Faulted, Unwritten, OutOfMemory}
+use Rattle.gcore.specs.declared.stop.Stop.TheVariants.{Usage, Unread, TooLarge, Refused, Text, Sorts, Certificate, Rejected, Faulted, Unwritten, OutOfMemory}
 
 -- where the files are told, this stop is due
 abbrev pub IsDueFor : Reading → List Pair → Stop → Type 0
@@ -29,7 +29,6 @@ StopsReadingGraphs reading pairs (Text refusal) = ⊥
 StopsReadingGraphs reading pairs (Sorts rule place) = ⊥
 StopsReadingGraphs reading pairs (Certificate refusal) = ⊥
 StopsReadingGraphs reading pairs (Rejected search rule) = ⊥
-StopsReadingGraphs reading pairs NotBuilt = ⊥
 StopsReadingGraphs reading pairs (Faulted fault) = ⊥
 StopsReadingGraphs reading pairs Unwritten = ⊥
 StopsReadingGraphs reading pairs OutOfMemory = ⊤

@@ -1,7 +1,9 @@
 pub mod CertificateLines
+pub mod Certifications
 pub mod CommandLines
+pub mod EndTexts
 pub mod Endings
-pub mod ExplainedSessions
+pub mod EvaluatedSessions
 pub mod Explanations
 pub mod FaultLines
 pub mod GraphLines

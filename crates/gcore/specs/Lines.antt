@@ -16,7 +16,7 @@ use Rattle.gcore.specs.declared.placed_fault.PlacedFault.{PlacedFault}
 use Rattle.gcore.specs.declared.status.Status.{Status}
 use Rattle.gcore.specs.declared.status.Status.TheVariants as status
 use Rattle.gcore.specs.declared.stop.Stop.{Stop}
-use Rattle.gcore.specs.declared.stop.Stop.TheVariants.{Usage, Unread, TooLarge, Refused, Text, Sorts, Certificate, Rejected, NotBuilt, Faulted, Unwritten, OutOfMemory}
+use Rattle.gcore.specs.declared.stop.Stop.TheVariants.{Usage, Unread, TooLarge, Refused, Text, Sorts, Certificate, Rejected, Faulted, Unwritten, OutOfMemory}
 use Rattle.gcore.specs.declared.text_refusal.TextRefusal.{TextRefusal}
 
 -- a line begins with the program's name and ends with a line feed
@@ -57,7 +57,6 @@ line_of (Text refusal) = text_line refusal
 line_of (Sorts rule place) = sort_line rule place
 line_of (Certificate refusal) = certificate_line refusal
 line_of (Rejected search rule) = rejected_line search rule
-line_of NotBuilt = line (codes "not built")
 line_of (Faulted fault) = placed_line fault
 line_of Unwritten = line (codes "cannot write")
 line_of OutOfMemory = line (codes "out of memory")
@@ -106,7 +105,6 @@ status_of (Text refusal) = status.Text
 status_of (Sorts rule place) = status.Sorts
 status_of (Certificate refusal) = status.Rejected
 status_of (Rejected search rule) = status.Rejected
-status_of NotBuilt = status.NotBuilt
 status_of (Faulted fault) = status.Fault
 status_of Unwritten = status.Write
 status_of OutOfMemory = status.Memory
@@ -124,4 +122,3 @@ code_of status.Write = 7
 code_of status.Memory = 8
 code_of status.Rejected = 9
 code_of status.Size = 10
-code_of status.NotBuilt = 11

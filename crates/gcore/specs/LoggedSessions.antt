@@ -1,11 +1,11 @@
 -- What keeping a log of a session does, statement by statement and as a whole.
-use Rattle.std.specs.Prelude.{◌≡◌, ℕ, List, slice_get, Option, Some, None, Result, Ok, Err, ⊤}
+use Rattle.std.specs.Prelude.{◌≡◌, ℕ, List, slice_get, Option, Some, Result, Ok, Err, ⊤}
 use Rattle.gc_ast.specs.Trees.{Tree, AStatement}
 use Rattle.gc_base.specs.declared.place.Place.{Place}
 use Rattle.gc_catalog.specs.NamedGraphs.{NamedGraphs}
 use Rattle.gc_lower.specs.Namings.{scope_in}
 use Rattle.gc_lower.specs.Scopes.{Scope}
-use Rattle.gc_query.specs.Evaluations.{Evaluation, EvaluatesAll, EvaluatesStatement, names_behind}
+use Rattle.gc_query.specs.Evaluations.{Evaluation, EvaluatesStatement, names_behind}
 use Rattle.gc_query.specs.Logs.{IsGained, Log, Tells, new_log}
 use Rattle.gc_query.specs.Sessions.{Answer, Answers, Fails, behind}
 use Rattle.gc_query.specs.Steps.{standing}
@@ -13,7 +13,8 @@ use Rattle.gc_query.specs.declared.fault.Fault.{Fault}
 use Rattle.gc_query.specs.declared.log.Wants.{Wants}
 use Rattle.gc_spec.specs.PropertyGraph.{PropertyGraph}
 use Rattle.gcore.specs.Endings.{stop_of_fault}
-use Rattle.gcore.specs.Outcomes.{Prints, Request, beginning}
+use Rattle.gcore.specs.EvaluatedSessions.{IsEvaluatedOver}
+use Rattle.gcore.specs.Outcomes.{Prints, Request}
 use Rattle.gcore.specs.SessionSteps.{GoesWell}
 use Rattle.gcore.specs.declared.stop.Stop.{Stop}
 use Rattle.gcore.specs.declared.stop.Stop.TheVariants.{Faulted, OutOfMemory}
@@ -47,10 +48,8 @@ LogsStatementAt s places before after log later statements i result =
 
 -- the session of a request, over graphs of these names, has no fault, and a log has what it wants of the CONSTRUCTs that it evaluates
 pub record HasLog (names : List (Option (List ℕ))) (r : Request) (wants : Wants) (log : Log) : Type 0 where
-  pub graphs : List PropertyGraph
   pub all : List Evaluation
-  pub prints : Prints r graphs None
-  pub evaluated : EvaluatesAll (scope_in r.query.file 0) names (beginning r.graphs) r.query.file.statements all
+  pub evaluated : IsEvaluatedOver names r all
   pub gained : IsGained (scope_in r.query.file 0) (new_log wants) all log
 
 -- the session ends at the fault of a stop

@@ -24,7 +24,7 @@ use Rattle.gcore.specs.declared.command.CommandRefusal.{CommandRefusal}
 use Rattle.gcore.specs.declared.command.CommandRefusal.TheVariants as refusal
 use Rattle.gcore.specs.declared.pair.Pair.{Pair}
 use Rattle.gcore.specs.declared.stop.Stop.{Stop}
-use Rattle.gcore.specs.declared.stop.Stop.TheVariants.{Usage, Unread, TooLarge, Refused, NotBuilt, OutOfMemory}
+use Rattle.gcore.specs.declared.stop.Stop.TheVariants.{Usage, Unread, TooLarge, Refused, OutOfMemory}
 use Rattle.gcore.specs.declared.style.Style.{Style}
 use Rattle.gcore.specs.declared.style.Style.TheVariants.{Text, Summary}
 
@@ -126,10 +126,11 @@ make_request g query = Ok (record { graphs = g ∷ []; query = query; style = Su
 abbrev pub make_due : MakeKind → (size start : ℕ) → Result Request Stop
 make_due kind size start = then_due (query_file_of (made_name ∷ []) make_query) (make_request (made kind size start))
 
--- what a call has to do: to run a session, to explain one, or to check the bytes of a document
+-- what a call has to do: to run a session, to explain or to certify one, or to check the bytes of a document
 pub data Task : Type 0 where
   Runs : Request → Task
   Explains : Request → Task
+  Certifies : Request → Task
   Checks : List ℕ → Task
 
 -- what is to be done with a session, as what is due
@@ -140,10 +141,10 @@ task_due task due = then_due due (λ r. Ok (task r))
 abbrev pub check_due : Files → List ℕ → Result Task Stop
 check_due files document = then_due (file_due files document document_limit) (λ bytes. Ok (Checks bytes))
 
--- what a command has to do; one that is not built yet stops directly
+-- what a command has to do
 abbrev pub command_due : Files → Command → Result Task Stop
 command_due files (Run query pairs) = task_due Runs (run_due files query pairs)
-command_due files (Cert query pairs) = Err NotBuilt
+command_due files (Cert query pairs) = task_due Certifies (run_due files query pairs)
 command_due files (Explain query pairs) = task_due Explains (run_due files query pairs)
 command_due files (Check document) = check_due files document
 command_due files (Make kind size start) = task_due Runs (make_due kind size start)
@@ -165,6 +166,7 @@ IsAsked due r = due ≡ Ok (Runs r)
 abbrev pub IsOverSession : Task → Request → Type 0
 IsOverSession (Runs r) s = r ≡ s
 IsOverSession (Explains r) s = r ≡ s
+IsOverSession (Certifies r) s = r ≡ s
 IsOverSession (Checks bytes) s = ⊥
 
 abbrev pub IsToCheck : Result Task Stop → List ℕ → Type 0

@@ -5,7 +5,7 @@ use Rattle.gc_base.specs.Files.{Files}
 use Rattle.gc_sorts.specs.declared.checked.Checked.{Checked}
 use Rattle.gcore.specs.QueryFiles.{PlacedFile, placed}
 use Rattle.gcore.specs.declared.stop.Stop.{Stop}
-use Rattle.gcore.specs.declared.stop.Stop.TheVariants.{Usage, Unread, TooLarge, Refused, Text, Sorts, Certificate, Rejected, NotBuilt, Faulted, Unwritten, OutOfMemory}
+use Rattle.gcore.specs.declared.stop.Stop.TheVariants.{Usage, Unread, TooLarge, Refused, Text, Sorts, Certificate, Rejected, Faulted, Unwritten, OutOfMemory}
 
 -- a folder in a step: its files, where it tells them, and its count of faults before and after
 pub record Reading : Type 0 where
@@ -24,7 +24,6 @@ StopsReading reading name due (Text refusal) = ⊥
 StopsReading reading name due (Sorts rule place) = ⊥
 StopsReading reading name due (Certificate refusal) = ⊥
 StopsReading reading name due (Rejected search rule) = ⊥
-StopsReading reading name due NotBuilt = ⊥
 StopsReading reading name due (Faulted fault) = ⊥
 StopsReading reading name due Unwritten = ⊥
 StopsReading reading name due OutOfMemory = ⊤

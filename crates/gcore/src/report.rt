@@ -37,7 +37,6 @@ pub fn tell<T: Sink>(stop: &Stop, err: &mut T)
         Stop::Sorts(rule, place) => tell_sorts(err, *rule, *place),
         Stop::Certificate(refusal) => tell_certificate(err, *refusal),
         Stop::Rejected(search, rule) => tell_rejected(err, *search, *rule),
-        Stop::NotBuilt => tell_line(err, b"not built", b""),
         Stop::Faulted(fault) => tell_fault(err, fault),
         Stop::Unwritten => tell_line(err, b"cannot write", b""),
         Stop::OutOfMemory => tell_line(err, b"out of memory", b""),

@@ -26,8 +26,6 @@ pub enum Status {
     Rejected = 9,
     /// A named file is larger than its limit.
     Size = 10,
-    /// What is asked for is not built yet.
-    NotBuilt = 11,
 }
 
 impl Status {

@@ -35,8 +35,6 @@ pub enum Stop {
     Certificate(CertRefusal),
     /// A search of a certificate, by its number from 0, breaks a rule.
     Rejected(u32, KRule),
-    /// What is asked for is not built yet.
-    NotBuilt,
     /// A statement has a fault.
     Faulted(PlacedFault),
     /// The output failed.
@@ -59,7 +57,6 @@ impl Stop {
             Stop::Sorts(_, _) => Status::Sorts,
             Stop::Certificate(_) => Status::Rejected,
             Stop::Rejected(_, _) => Status::Rejected,
-            Stop::NotBuilt => Status::NotBuilt,
             Stop::Faulted(_) => Status::Fault,
             Stop::Unwritten => Status::Write,
             Stop::OutOfMemory => Status::Memory,

@@ -188,7 +188,7 @@ function fillExamples() {
       group.label = example.section;
       groups.set(example.section, group);
     }
-    groups.get(example.section).append(new Option(example.name + (example.built ? "" : " (not built)"), at));
+    groups.get(example.section).append(new Option(example.name, at));
   });
   find("examples").append(...groups.values());
 }

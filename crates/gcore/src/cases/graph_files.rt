@@ -1,14 +1,8 @@
-// Graph files that are read, those that break a rule, and a command that is not built yet.
+// Graph files that are read, and those that break a rule.
 use super::first_failing;
 use std::test::Fail;
 
 const CASES: &str = r##"
-cert-not-built
-$ cert q g=a
-a: «labels»
-q: CONSTRUCT (v) MATCH (v:Person)
-= 11 gcore: not built
-
 absent-label-on-sample
 $ run q S=s
 q: CONSTRUCT (n) MATCH (n:City)

@@ -70,7 +70,8 @@ E17={"from":1,"id":17,"labels":["knows"],"properties":{"msgs":[3]},"to":2}
 P4={"id":4,"labels":["Boss","Person"],"properties":{"employer":["CWI","MIT"],"name":["Dea"]}}
 John={"id":1,"labels":["Person"],"properties":{"firstName":["John"]}}
 Peter={"id":2,"labels":["Person"],"properties":{"firstName":["Peter"]}}
-Celine={"id":3,"labels":["Person"],"properties":{"firstName":["Celine"]}}"#;
+Celine={"id":3,"labels":["Person"],"properties":{"firstName":["Celine"]}}
+Arc={"edges":[{"from":1,"id":3,"labels":["A"],"properties":{},"to":2}],"gcore":1,"nodes":[{"id":1,"labels":[],"properties":{}},{"id":2,"labels":[],"properties":{}}],"paths":[]}"#;
 
 /// Whom John has to ask on his way to someone who is interested in Wagner.
 const FRIENDS: &str = r#"GRAPH VIEW social1 AS (

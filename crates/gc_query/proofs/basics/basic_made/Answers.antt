@@ -5,6 +5,7 @@ use Rattle.gc_exec.specs.Runs.{setting}
 use Rattle.gc_lower.specs.Blocks.{block_of}
 use Rattle.gc_spec.specs.PropertyGraph.{PropertyGraph}
 use Rattle.gc_ast.specs.QueryViews.{basic_tree}
+use Rattle.gc_cert_searches.specs.Patterns.{AreOnly}
 use Rattle.gc_alg.specs.Views.{block_tree}
 use Rattle.gc_expr.specs.Views.{Names}
 use Rattle.gc_lower.specs.Scopes.{Scope}
@@ -34,6 +35,9 @@ table_made-requires-clause-matched g c = c.in_ok-table.ensures
 
 pub tell-requires-clause-searched : goal.tell-requires-clause-searched
 tell-requires-clause-searched g c = ap are_searched c.in_ok-lowered.ensures.is_block ∙ c.requires.built.searched
+
+pub tell-requires-clause-only : goal.tell-requires-clause-only
+tell-requires-clause-only g c = subst AreOnly (sym c.in_ok-lowered.ensures.is_block) c.requires.built.only
 
 pub tell-requires-clause-matched : goal.tell-requires-clause-matched
 tell-requires-clause-matched g c = c.in_ok-table.ensures

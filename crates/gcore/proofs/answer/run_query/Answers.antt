@@ -1,21 +1,12 @@
-use Rattle.std.proofs.Common.{◌≡◌, ℕ, List, Option, Ok, sym, subst}
-use Rattle.std.specs.Prelude.{IfSome}
-use Rattle.gc_base.specs.Files.{Files}
 use Rattle.gcore.specs.Endings.{Change}
-use Rattle.gcore.specs.Outcomes.{graph_names, query_file_due}
-use Rattle.gcore.specs.QueryFiles.{PlacedFile, placed}
+use Rattle.gcore.specs.Outcomes.{graph_names}
+use Rattle.gcore.specs.QueryFiles.{placed}
 use Rattle.gcore.proofs.GraphsRead.{graphs_differ}
-use Rattle.gcore.proofs.RunLaws.{run_room, written}
+use Rattle.gcore.proofs.RunLaws.{file_read, run_room, written}
 use Rattle.gcore.proofs.answer.run_query.Goals as goal
 
 pub read_graphs-requires : goal.read_graphs-requires
 read_graphs-requires g c = graphs_differ c.args.pairs.now c.requires.graphs
-
--- the query file that was read over these names, with what the folder told before
-file_read : (told before : Option Files) (names graphs : List (List ℕ)) (query : List ℕ) (file : PlacedFile) → told ≡ before → names ≡ graphs → IfSome told (λ files. query_file_due names files query ≡ Ok file)
-    → IfSome before (λ files. query_file_due graphs files query ≡ Ok file)
-file_read told before names graphs query file kept same read =
-    subst (λ ns. IfSome before (λ files. query_file_due ns files query ≡ Ok file)) same (subst (λ (t : Option Files). IfSome t (λ files. query_file_due names files query ≡ Ok file)) kept read)
 
 pub run_session-written-requires-clause-begins : goal.run_session-written-requires-clause-begins
 run_session-written-requires-clause-begins g c = c.in_ok-catalog.ensures.outcome.3

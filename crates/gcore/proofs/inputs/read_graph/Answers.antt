@@ -7,7 +7,7 @@ use Rattle.gc_json.specs.declared.refusal.GraphRefusal.{GraphRefusal}
 use Rattle.gcore.specs.Outcomes.{accepted, then_due, file_due, graph_due, graph_limit}
 use Rattle.gcore.specs.Steps.{Accepts, ReadsGraph}
 use Rattle.gcore.specs.declared.stop.Stop.{Stop}
-use Rattle.gcore.specs.declared.stop.Stop.TheVariants.{Usage, Unread, TooLarge, Refused, Text, Sorts, Certificate, Rejected, NotBuilt, Faulted, Unwritten, OutOfMemory}
+use Rattle.gcore.specs.declared.stop.Stop.TheVariants.{Usage, Unread, TooLarge, Refused, Text, Sorts, Certificate, Rejected, Faulted, Unwritten, OutOfMemory}
 use Rattle.gcore.proofs.inputs.read_graph.Goals as goal
 
 -- a file that was read, and what is due of its bytes
@@ -37,7 +37,6 @@ read_accepted seen told before after name bytes (Err (Text refused)) f h = absur
 read_accepted seen told before after name bytes (Err (Sorts rule place)) f h = absurd (never name (file_graph seen bytes) (Sorts rule place) (λ refusal e. cc) h)
 read_accepted seen told before after name bytes (Err (Certificate refused)) f h = absurd (never name (file_graph seen bytes) (Certificate refused) (λ refusal e. cc) h)
 read_accepted seen told before after name bytes (Err (Rejected search rule)) f h = absurd (never name (file_graph seen bytes) (Rejected search rule) (λ refusal e. cc) h)
-read_accepted seen told before after name bytes (Err NotBuilt) f h = absurd (never name (file_graph seen bytes) NotBuilt (λ refusal e. cc) h)
 read_accepted seen told before after name bytes (Err (Faulted fault)) f h = absurd (never name (file_graph seen bytes) (Faulted fault) (λ refusal e. cc) h)
 read_accepted seen told before after name bytes (Err Unwritten) f h = absurd (never name (file_graph seen bytes) Unwritten (λ refusal e. cc) h)
 

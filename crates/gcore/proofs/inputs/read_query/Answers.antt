@@ -5,7 +5,7 @@ use Rattle.gcore.specs.Outcomes.{then_due, file_due, query_file_due, query_limit
 use Rattle.gcore.specs.QueryFiles.{IsFileOf, PlacedFile, placed, query_file_of}
 use Rattle.gcore.specs.Steps.{ReadsQuery}
 use Rattle.gcore.specs.declared.stop.Stop.{Stop}
-use Rattle.gcore.specs.declared.stop.Stop.TheVariants.{Usage, Unread, TooLarge, Refused, Text, Sorts, Certificate, Rejected, NotBuilt, Faulted, Unwritten, OutOfMemory}
+use Rattle.gcore.specs.declared.stop.Stop.TheVariants.{Usage, Unread, TooLarge, Refused, Text, Sorts, Certificate, Rejected, Faulted, Unwritten, OutOfMemory}
 use Rattle.gcore.proofs.BuiltQueries.{file_is_built}
 use Rattle.gcore.proofs.inputs.read_query.Goals as goal
 
@@ -24,7 +24,6 @@ read_file_of graphs (Some files) before after name bytes (Err (Sorts rule place)
 read_file_of graphs told before after name bytes (Err OutOfMemory) f h = tt
 read_file_of graphs told before after name bytes (Err (Certificate refusal)) f h = absurd h
 read_file_of graphs told before after name bytes (Err (Rejected search rule)) f h = absurd h
-read_file_of graphs told before after name bytes (Err NotBuilt) f h = absurd h
 read_file_of graphs told before after name bytes (Err Usage) f h = absurd h
 read_file_of graphs told before after name bytes (Err (Unread file)) f h = absurd h
 read_file_of graphs told before after name bytes (Err (TooLarge file)) f h = absurd h

@@ -3,7 +3,7 @@ use Rattle.std.specs.Prelude.{codes}
 use Rattle.gcore.specs.Lines.{line, line_of}
 use Rattle.gcore.specs.Endings.{Change, Tells}
 use Rattle.gcore.specs.declared.stop.Stop.{Stop}
-use Rattle.gcore.specs.declared.stop.Stop.TheVariants.{Unread, TooLarge, Text, Sorts, Certificate, Rejected, NotBuilt, Faulted, Unwritten, OutOfMemory}
+use Rattle.gcore.specs.declared.stop.Stop.TheVariants.{Unread, TooLarge, Text, Sorts, Certificate, Rejected, Faulted, Unwritten, OutOfMemory}
 use Rattle.gcore.proofs.report.tell.Goals as goal
 
 -- the line of a stop
@@ -34,9 +34,6 @@ returns-in-Certificate g c = told _ c.args.stop.now (Certificate c.in-Certificat
 
 pub returns-in-Rejected : goal.returns-in-Rejected
 returns-in-Rejected g c = told _ c.args.stop.now (Rejected c.in-Rejected.search c.in-Rejected.rule) c.in-Rejected.is c.tell_rejected.ensures
-
-pub returns-in-NotBuilt : goal.returns-in-NotBuilt
-returns-in-NotBuilt g c = told _ c.args.stop.now NotBuilt c.in-NotBuilt.is c.tell_line-in-NotBuilt.ensures
 
 pub returns-in-Unwritten : goal.returns-in-Unwritten
 returns-in-Unwritten g c = told _ c.args.stop.now Unwritten c.in-Unwritten.is c.tell_line-in-Unwritten.ensures

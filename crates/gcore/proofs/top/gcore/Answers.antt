@@ -3,12 +3,12 @@ use Rattle.std.specs.Prelude.{IfSome, IsSomeAnd, Contains}
 use Rattle.gc_base.specs.Files.{Files}
 use Rattle.gcore.specs.Endings.{Call, Change, EndsAt, FaultsAt, IsTurnOf, IsTurnOfGraph, IsTurnOfItsQuery, IsTurnOfItsSession, HasQuery, HasSession, MayStop, StopsFor, graphs_of, graph_files, named_files}
 use Rattle.gcore.specs.GraphSteps.{IsHeldStop}
-use Rattle.gcore.specs.Outcomes.{Checks, Explains, Runs, Task, outcome}
+use Rattle.gcore.specs.Outcomes.{Certifies, Checks, Explains, Runs, Task, outcome}
 use Rattle.gcore.specs.declared.command.Command.{Command}
 use Rattle.gcore.specs.declared.command.Command.TheVariants.{Run, Cert, Explain, Check, Make}
 use Rattle.gcore.specs.declared.pair.Pair.{Pair}
 use Rattle.gcore.specs.declared.stop.Stop.{Stop}
-use Rattle.gcore.specs.declared.stop.Stop.TheVariants.{Usage, Unread, TooLarge, Refused, Text, Sorts, Certificate, Rejected, NotBuilt, Faulted, Unwritten, OutOfMemory}
+use Rattle.gcore.specs.declared.stop.Stop.TheVariants.{Usage, Unread, TooLarge, Refused, Text, Sorts, Certificate, Rejected, Faulted, Unwritten, OutOfMemory}
 use Rattle.gcore.proofs.top.gcore.Goals as goal
 
 abbrev files_of : List Pair → List (List ℕ)
@@ -32,7 +32,8 @@ is_named : (command : Option Command) (told : Option Files) (file : List ℕ) �
 is_named None told file h = absurd h
 is_named (Some (Run query pairs)) told file (inl turn) = one_more (files_of pairs) file query (is_graph_file told pairs file turn)
 is_named (Some (Run query pairs)) told file (inr turn) = (0, omega arith, sym turn.0)
-is_named (Some (Cert query pairs)) told file h = absurd h
+is_named (Some (Cert query pairs)) told file (inl turn) = one_more (files_of pairs) file query (is_graph_file told pairs file turn)
+is_named (Some (Cert query pairs)) told file (inr turn) = (0, omega arith, sym turn.0)
 is_named (Some (Explain query pairs)) told file (inl turn) = one_more (files_of pairs) file query (is_graph_file told pairs file turn)
 is_named (Some (Explain query pairs)) told file (inr turn) = (0, omega arith, sym turn.0)
 is_named (Some (Check document)) told file h = (0, omega arith, sym h)
@@ -45,7 +46,7 @@ is_named_graph (Some command) told file h = is_graph_file told (graphs_of comman
 has_query : (command : Option Command) (told : Option Files) → IsSomeAnd command (λ c. IsTurnOfItsQuery told c) → IsSomeAnd command HasQuery
 has_query None told h = absurd h
 has_query (Some (Run query pairs)) told h = tt
-has_query (Some (Cert query pairs)) told h = absurd h
+has_query (Some (Cert query pairs)) told h = tt
 has_query (Some (Explain query pairs)) told h = tt
 has_query (Some (Check document)) told h = absurd h
 has_query (Some (Make kind size start)) told h = absurd h
@@ -53,7 +54,7 @@ has_query (Some (Make kind size start)) told h = absurd h
 has_session : (command : Option Command) (told : Option Files) → IsSomeAnd command (λ c. IsTurnOfItsSession told c) → IsSomeAnd command HasSession
 has_session None told h = absurd h
 has_session (Some (Run query pairs)) told h = tt
-has_session (Some (Cert query pairs)) told h = absurd h
+has_session (Some (Cert query pairs)) told h = tt
 has_session (Some (Explain query pairs)) told h = tt
 has_session (Some (Check document)) told h = absurd h
 has_session (Some (Make kind size start)) told h = tt
@@ -62,6 +63,7 @@ has_session (Some (Make kind size start)) told h = tt
 ends_by : (told : Files) (command : Option Command) (out : Change) (stop : Stop) (task : Task) → outcome command told ≡ Ok task → FaultsAt task out stop → EndsAt (Some told) command stop
 ends_by told command out stop (Runs r) due h = (Runs r, r, h.0, h.1, due, refl, h.2, h.3)
 ends_by told command out stop (Explains r) due h = (Explains r, r, h.0, h.1, due, refl, h.2, h.3)
+ends_by told command out stop (Certifies r) due h = (Certifies r, r, h.0, h.1, due, refl, h.2, h.3)
 ends_by told command out stop (Checks bytes) due h = absurd h
 
 ends : (told : Option Files) (command : Option Command) (out : Change) (stop : Stop)
@@ -78,7 +80,6 @@ may_stop call (Text refusal) held h = (has_query call.command call.files h.0, he
 may_stop call (Sorts rule place) held h = (has_query call.command call.files h.0, held)
 may_stop call (Certificate refusal) held h = (h.0, held)
 may_stop call (Rejected search rule) held h = (h.0, held)
-may_stop call NotBuilt held h = tt
 may_stop call (Faulted fault) held h = (has_session call.command call.files h.0, held, ends call.files call.command call.out (Faulted fault) h.1)
 may_stop call Unwritten held h = tt
 may_stop call OutOfMemory held h = tt
