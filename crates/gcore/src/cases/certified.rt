@@ -1,10 +1,7 @@
 // Certificates that are written of sessions, and that each of them is accepted.
-use super::{NEVER, call, first_failing, seen, words_of};
-use gc_base::{Bytes, Str};
-use gc_io::{FileEntry, FileList};
+use super::certificates::checked;
+use super::{NEVER, first_failing, seen};
 use std::alloc::Global;
-use std::marker::Brand;
-use std::sync::ledger::Blank;
 use std::test::Fail;
 
 const CASES: &str = r##"
@@ -123,14 +120,7 @@ fn is_accepted(alloc: Global, case: &str) -> Result<bool, Fail> {
     };
     let (words, files) = lines.split_once('\n').unwrap_or((lines, ""));
     let certificate = seen(alloc, words, files, &NEVER)?.out;
-    let mut files = FileList::new(alloc);
-    files.push(FileEntry {
-        name: Str::of(alloc, "c")?,
-        bytes: Bytes::from_vec(certificate),
-    })?;
-    let words = words_of(alloc, "check c")?;
-    let checked = call::<Brand>(alloc, &words, files, &NEVER, Blank::new(1))?;
-    Ok(checked.status == 0)
+    Ok(checked(alloc, certificate)?.status == 0)
 }
 
 #[test]
