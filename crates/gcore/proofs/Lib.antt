@@ -7,6 +7,7 @@ pub mod RunLaws
 pub mod MakeQueryRead
 pub mod MakeLaws
 pub mod CheckLaws
+pub mod CertifiedLaws
 pub mod SummaryLaws
 pub mod QueryFileLaws
 pub mod SortedFiles

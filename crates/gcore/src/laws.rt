@@ -1,4 +1,5 @@
-ghost use Rattle.std.specs.Prelude.{◌≡◌, ℕ, List, slice_get, true, Some, None, Ok, Err};
+ghost use Rattle.std.specs.Prelude.{◌≡◌, ℕ, List, length, map, slice_get, true, Some, None, Ok, Err};
+ghost use Rattle.std.specs.List.{AllByRecursion};
 ghost use Rattle.gc_base.specs.declared.place.Place.{Place};
 ghost use Rattle.gc_lex.specs.Lexis.{TokenList, lexed};
 ghost use Rattle.gc_lex.specs.declared.token.Token.{Token};
@@ -10,12 +11,19 @@ ghost use Rattle.gc_sorts.specs.declared.breach.Breach.{Breach};
 ghost use Rattle.gc_sorts.specs.declared.breach.SortRule.{SortRule};
 ghost use Rattle.gc_sorts.specs.SortRules.{first_breach};
 ghost use Rattle.gc_parse_source.specs.Sources.{names_among};
+ghost use Rattle.gc_cert_text.specs.Certificates.{told};
+ghost use Rattle.gc_cert_text.specs.WritableSearches.{IsWritable};
+ghost use Rattle.gc_check_text.specs.Outcomes.{IsOutcome};
 ghost use Rattle.gc_query.specs.Built.{AreBuilt};
 ghost use Rattle.gc_query.specs.InOrder.{IsInOrder};
 ghost use Rattle.gc_query.specs.Expressions.{EachHasParts};
+ghost use Rattle.gcore.specs.Certifications.{IsCertified};
+ghost use Rattle.gcore.specs.Outcomes.{Request};
 ghost use Rattle.gcore.specs.QueryFiles.{PlacedFile, breach_place, file_over, query_file_of};
 ghost use Rattle.gcore.specs.declared.stop.Stop.TheVariants.{Sorts, Text};
 ghost use Rattle.gcore.specs.declared.text_refusal.TextRefusal.TheVariants.{TooDeep, Syntax};
+
+use gc_cert_text::written_certificates_read_back;
 
 /// A query file asks what the statements ask that its tokens spell, where their brackets are not too
 /// deep and they break no sort rule over the names of the graphs. Else it is told which rule is broken
@@ -46,3 +54,12 @@ pub fn a_query_file_that_is_read_is_built()
     ensures order { (ts : List Token) (statements : List (Tree AStatement)) → SpellsFile ts statements → (upto : ℕ) × IsInOrder (names_among ts) 0 (row statements) upto }
     ensures built { (graphs : List (List ℕ)) (text : List ℕ) (query : PlacedFile) → query_file_of graphs text ≡ Ok query → AreBuilt query.file }
 {}
+
+/// What `cert` writes is accepted by `check`, with each of its searches, where these can be written so that they read
+/// back: each graph has at most 1,000,000 elements, each expression has at most 1,024 states and parentheses at most 64
+/// deep, and all numbers are in range.
+pub fn what_is_certified_is_accepted()
+    ensures { (r : Request) (text : List ℕ) (c : IsCertified r text) → AllByRecursion IsWritable (map told c.searches) → IsOutcome text (Ok (length c.searches)) }
+{
+    written_certificates_read_back();
+}

@@ -31,6 +31,12 @@ const FRIENDS: Whole = Whole {
     read: &["w", "w", "q", "q"],
 };
 
+const CERTIFIED: Whole = Whole {
+    words: "cert q g=a",
+    files: "a: «Arc»\nq: CONSTRUCT (x) MATCH (x)-/p<:A*>/->(y)",
+    read: &["a", "a", "q", "q"],
+};
+
 const SUM_PAST_RANGE: Whole = Whole {
     words: "run q S=s",
     files: "q: CONSTRUCT (n {x := 9223372036854775807 + 1}) MATCH (n)\ns: «S»",
@@ -113,7 +119,7 @@ fn tellings_fail(alloc: Global, whole: &Whole, line: &str) -> Result<bool, Fail>
 #[test]
 fn each_call_fails_once(rt: HostRuntime) -> Result<(), Fail> {
     let alloc = rt.alloc();
-    for whole in [&PERSONS, &BACKWARDS, &FRIENDS] {
+    for whole in [&PERSONS, &BACKWARDS, &FRIENDS, &CERTIFIED] {
         assert!(rt; reads_fail(alloc, whole)?);
         assert!(rt; writes_fail(alloc, whole)?);
     }
