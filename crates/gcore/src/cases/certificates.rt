@@ -231,7 +231,7 @@ fn is_told(alloc: Global, text: &str, change: &str) -> Result<bool, Fail> {
 fn first_beginning(alloc: Global, text: &[u8]) -> Result<Option<usize>, Fail> {
     for length in 0..text.len() {
         let seen = checked(alloc, text[..length].to_vec(alloc)?)?;
-        if seen.status != 9 || seen.err.as_slice() != b"gcore: C1 NotJson\n" {
+        if seen.status != 9 || seen.err.as_slice() != b"gcore: C1 NotJson\n".as_slice() {
             return Ok(Some(length));
         }
     }
