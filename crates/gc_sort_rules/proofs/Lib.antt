@@ -1,0 +1,3 @@
+pub mod PatternLaws
+pub mod Same
+pub mod SharedLaws

@@ -1,0 +1,3 @@
+//! The fifteen sort rules of query files, each as a predicate of its own on the places of a file, and the law that what
+//! they break is what gc_sorts checks. This crate has definitions and laws, and no code.
+#![tactic(auto)]
