@@ -1,3 +1,4 @@
+pub mod ExpressionLaws
 pub mod PatternLaws
 pub mod Same
 pub mod SharedLaws
