@@ -1,4 +1,6 @@
+pub mod ConstructLaws
 pub mod ExpressionLaws
 pub mod PatternLaws
 pub mod Same
 pub mod SharedLaws
+pub mod TreeLaws
