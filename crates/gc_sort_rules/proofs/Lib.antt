@@ -4,3 +4,4 @@ pub mod PatternLaws
 pub mod Same
 pub mod SharedLaws
 pub mod TreeLaws
+pub mod VerdictLaws

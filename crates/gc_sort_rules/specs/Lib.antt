@@ -18,4 +18,5 @@ pub mod TwiceGrouped
 pub mod UnknownGraph
 pub mod UnknownName
 pub mod UnknownView
+pub mod Verdicts
 pub mod ViewNeedsEdge
