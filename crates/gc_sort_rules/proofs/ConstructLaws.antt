@@ -1,36 +1,39 @@
 -- What the items of a CONSTRUCT break is what their places break.
-use Rattle.std.proofs.Common.{◌≡◌, ℕ, ◌+◌, Bool, true, false, not, ◌&&◌, ◌||◌, if◌then◌else◌, List, [], ◌∷◌, ◌++◌, map, Option, None, Some, refl, sym, ap, subst}
-use Rattle.std.specs.List.{list_any}
+use Rattle.std.proofs.Common.{◌≡◌, ℕ, ◌+◌, Bool, true, false, not, ◌&&◌, ◌||◌, if◌then◌else◌, List, [], ◌∷◌, ◌++◌, map, Option, None, Some}
+use Rattle.std.proofs.Common.{refl, sym, subst}
 use Rattle.gc_base.specs.declared.place.Direction.{Direction}
 use Rattle.gc_base.specs.declared.place.Direction.TheVariants.{Forward}
 use Rattle.gc_ast.specs.Trees as tree
 use Rattle.gc_ast.specs.Trees.{Tree, Named, RowOf, AnItem, AConstructPart, ANewElement, AGroupTerm, AnAssign, AChange}
-use Rattle.gc_sorts.specs.declared.breach.Breach.{Breach}
 use Rattle.gc_sorts.specs.declared.breach.SortRule.{SortRule}
-use Rattle.gc_sorts.specs.declared.breach.SortRule.TheVariants.{UnknownName, AllNotProjected, LooseEdge, TwiceGrouped}
+use Rattle.gc_sorts.specs.declared.breach.SortRule.TheVariants.{UnknownName, AllNotProjected, LooseEdge}
 use Rattle.gc_sorts.specs.declared.form.Form.{Form}
 use Rattle.gc_sorts.specs.declared.form.Form.TheVariants as form
 use Rattle.gc_sorts.specs.declared.form.Takes.TheVariants as takes
 use Rattle.gc_sorts.specs.declared.sort.Role.{Role}
 use Rattle.gc_sorts.specs.declared.sort.Role.TheVariants as role
 use Rattle.gc_sorts.specs.Breaches.{Breaches, none, both, broken, broken_if}
-use Rattle.gc_sorts.specs.Constructs.{Made, Making, making, group_uses, copy_uses, term_takes, formula_breaches, assign_breaches, made_breaches, copy_breaches, term_breaches}
-use Rattle.gc_sorts.specs.Constructs.{is_later, twice, each_twice, second_edge, element_breaches, edge_breaches, projected_misfit, stored_breaches, part_breaches}
+use Rattle.gc_sorts.specs.Constructs.{Made, Making, making, group_uses, copy_uses, term_takes, formula_breaches, assign_breaches}
+use Rattle.gc_sorts.specs.Constructs.{made_breaches, copy_breaches, term_breaches}
+use Rattle.gc_sorts.specs.Constructs.{is_later, twice, each_twice, second_edge, element_breaches, edge_breaches, projected_misfit}
+use Rattle.gc_sorts.specs.Constructs.{stored_breaches, part_breaches}
 use Rattle.gc_sorts.specs.Constructs.{all_if, target_breaches, change_breaches, item_breaches}
 use Rattle.gc_sorts.specs.Constructs as constructs
-use Rattle.gc_sorts.specs.Expressions.{misfit, unknown_if, name_breaches}
+use Rattle.gc_sorts.specs.Expressions.{unknown_if, name_breaches}
 use Rattle.gc_sorts.specs.Graphs.{has_name, unknown_graph}
-use Rattle.gc_sorts.specs.Links.{Link, name_if, part_name, front_part_name, bracket, fits, is_either, bound_link, bound_if, loose_edge, loose_part, loose_parts, loose_item}
+use Rattle.gc_sorts.specs.Links.{Link, name_if, part_name, front_part_name, bracket, is_either, bound_if, loose_edge, loose_part}
+use Rattle.gc_sorts.specs.Links.{loose_parts, loose_item}
 use Rattle.gc_sorts.specs.Patterns.{each}
 use Rattle.gc_sorts.specs.Uses.{all_of}
-use Rattle.gc_sorts.specs.Variables.{Use, first_use, has_use}
+use Rattle.gc_sorts.specs.Variables.{Use, has_use}
 use Rattle.gc_sort_rules.specs.AllNotProjected.{is_all}
-use Rattle.gc_sort_rules.specs.ConstructPlaces.{Construct, given, when_scope, when_, in_assign, element_name, copied, in_term, group_at, copy_at, in_element, edge_name, in_edge, in_part}
+use Rattle.gc_sort_rules.specs.ConstructPlaces.{Construct, given, when_scope, when_, in_assign, element_name, copied, in_term, group_at}
+use Rattle.gc_sort_rules.specs.ConstructPlaces.{copy_at, in_element, edge_name, in_edge, in_part}
 use Rattle.gc_sort_rules.specs.ConstructPlaces.{target, in_change, link_at, links_of, in_item}
 use Rattle.gc_sort_rules.specs.ExpressionPlaces.{name_form, named, in_formula}
 use Rattle.gc_sort_rules.specs.LooseEdge.{is_loose}
 use Rattle.gc_sort_rules.specs.PatternPlaces.{graph_name}
-use Rattle.gc_sort_rules.specs.Places.{Scope, Occurrence, At, Name, Operand, Projected, Target, EdgeName, EdgeLink, PathLink, Assigned, Elsewhere}
+use Rattle.gc_sort_rules.specs.Places.{Scope, Occurrence, At, Name, Projected, EdgeName, EdgeLink, PathLink, Assigned, Elsewhere}
 use Rattle.gc_sort_rules.proofs.ExpressionLaws.{name_same, named_same, operand_same, formula_same}
 use Rattle.gc_sort_rules.proofs.PatternLaws.{graph_same}
 use Rattle.gc_sort_rules.proofs.Same.{Same, alike_same, none_same, both_same, swapped, each_same, each_pair_same, place_same, listed, told}
@@ -100,7 +103,8 @@ edge_name_same c (Some x) = place_same (second_edge (held c) (Some x)) (At x.tok
 edge_same : (c : Construct) (e : Tree ANewElement) → Same (edge_breaches (held c) e) (in_edge c e)
 edge_same c (tree.NewElement token name copy group labels assigns) =
     let element : Tree ANewElement = tree.NewElement token name copy group labels assigns in
-    both_same (second_edge (held c) name) (element_breaches (held c) form.Edge role.Edge element) (edge_name c name) (in_element c form.Edge role.Edge element)
+    both_same (second_edge (held c) name) (element_breaches (held c) form.Edge role.Edge element) (edge_name c name)
+    (in_element c form.Edge role.Edge element)
     (edge_name_same c name) (element_same c form.Edge role.Edge element)
 
 -- a path that is projected
@@ -165,7 +169,8 @@ edge_link_same c left right way token (Some name) =
     (place_same (broken_if (if bound then is_loose c.links link else is_either way) LooseEdge token)
     (At token (EdgeLink (Some name) left right way c.links) c.scope) refl)
 
-path_link_same : (c : Construct) (link : Link) (token : ℕ) → Same (bound_if c.scope.variables c.links link token) (At token (PathLink link c.links) c.scope ∷ [])
+path_link_same : (c : Construct) (link : Link) (token : ℕ)
+    → Same (bound_if c.scope.variables c.links link token) (At token (PathLink link c.links) c.scope ∷ [])
 path_link_same c link token =
     subst (λ bs. Same bs (At token (PathLink link c.links) c.scope ∷ []))
     (sym (one_or_none (has_use c.scope.variables link.name) (is_loose c.links link) LooseEdge token))

@@ -1,32 +1,37 @@
 -- What expressions break is what their places break.
-use Rattle.std.proofs.Common.{◌≡◌, ℕ, ◌+◌, Bool, true, false, not, List, [], ◌∷◌, ◌++◌, map, Option, None, Some, is_some, slice_get, unwrap_or, refl, sym, ap, subst}
+use Rattle.std.proofs.Common.{◌&&◌, ◌∙◌, ◌≡◌, ℕ, ◌+◌, Bool, true, false, not, List, [], ◌∷◌, ◌++◌, map, Option, None, Some, is_some, slice_get}
+use Rattle.std.proofs.Common.{unwrap_or, refl, sym, ap, subst}
 use Rattle.std.specs.Option.{option_map}
 use Rattle.std.proofs.lemmas.Option.{slice_get-map}
 use Rattle.gc_expr.specs.Trees as expr
 use Rattle.gc_expr.specs.Trees.{ExprTree, Kind, AnExpr, ANode}
 use Rattle.gc_ast.specs.Trees as tree
-use Rattle.gc_ast.specs.Trees.{Tree, Named, RowOf, AFormula, AQuery}
-use Rattle.gc_sorts.specs.declared.breach.SortRule.TheVariants.{UnknownName, AggregateHere, ExistsForm}
+use Rattle.gc_ast.specs.Trees.{Tree, Named, RowOf, AFormula, AQuery, ATerm, AnItem, AConstructPart}
+use Rattle.gc_sorts.specs.declared.breach.SortRule.TheVariants.{UnknownName, SortClash, AggregateHere, ExistsForm}
 use Rattle.gc_sorts.specs.declared.form.Form.{Form}
-use Rattle.gc_sorts.specs.declared.form.Form.TheVariants.{Unknown, All}
+use Rattle.gc_sorts.specs.declared.form.Form.TheVariants.{Unknown, Condition, Node, Edge, Stored, All, Value}
 use Rattle.gc_sorts.specs.declared.form.Takes.{Takes}
 use Rattle.gc_sorts.specs.declared.form.Takes.TheVariants as takes
 use Rattle.gc_sorts.specs.declared.sort.Role.{Role}
 use Rattle.gc_sorts.specs.declared.sort.Role.TheVariants as role
-use Rattle.gc_sorts.specs.Breaches.{Breaches, none, both, broken_if}
+use Rattle.gc_sorts.specs.Breaches.{none, both, broken_if}
 use Rattle.gc_sorts.specs.Constructs.{formula_breaches}
 use Rattle.gc_sorts.specs.Expressions as known
-use Rattle.gc_sorts.specs.Expressions.{Standing, use_form, role_form, misfit, unknown_if, name_breaches, left_takes, right_takes, fold_takes, may_ask, expression_breaches}
+use Rattle.gc_sorts.specs.Expressions.{Standing, use_form, role_form, misfit, unknown_if, name_breaches, left_takes, right_takes}
+use Rattle.gc_sorts.specs.Expressions.{fold_takes, may_ask, expression_breaches}
 use Rattle.gc_sorts.specs.Graphs.{has_name}
-use Rattle.gc_sorts.specs.SortRules.{is_existence, are_existence}
+use Rattle.gc_sorts.specs.SortRules as sorts
+use Rattle.gc_sorts.specs.SortRules.{are_existence}
 use Rattle.gc_sorts.specs.Variables.{Use, first_use, has_use}
-use Rattle.gc_sort_rules.specs.Places.{Scope, Occurrence, At, Name, Operand, Aggregate, Exists, Around, Assigned, Aggregated, Elsewhere}
+use Rattle.gc_sort_rules.specs.Places.{Scope, At, Name, Operand, Aggregate, Exists, Around, Assigned, Aggregated}
 use Rattle.gc_sort_rules.specs.ExpressionPlaces.{Setting, standing, name_form, named, in_expression, in_formula, queries_of}
+use Rattle.gc_sort_rules.specs.ExistsForm.{is_bare_node, is_bare, is_bare_term, is_existence}
+use Rattle.gc_sort_rules.specs.SortClash.{is_comparable, is_taken}
 use Rattle.gc_sort_rules.proofs.Same.{Same, none_same, both_same, place_same, listed, told}
 
 -- where an expression stands, as gc_sorts has it: of each EXISTS whether it may stand there
 abbrev pub held : Setting → Standing
-held s = record { uses = s.scope.variables; stored = s.stored; exists = map is_existence s.queries }
+held s = record { uses = s.scope.variables; stored = s.stored; exists = map sorts.is_existence s.queries }
 
 abbrev pub folds : Around → Bool
 folds Assigned = true
@@ -40,11 +45,34 @@ node_known s other = refl
 form_known : (s : Setting) (e : ExprTree AnExpr) → known.form (standing s) e ≡ known.form (held s) e
 form_known s (expr.At token node) = node_known s node
 
+-- what a place takes
+comparable_alike : (a b : Form) → known.is_comparable a b ≡ is_comparable a b
+comparable_alike Value Value = refl
+comparable_alike Node Node = refl
+comparable_alike Edge Edge = refl
+comparable_alike Stored Stored = refl
+comparable_alike a b = refl
+
+taken_alike : (place : Takes) (form : Form) → known.is_taken place form ≡ is_taken place form
+taken_alike takes.Anything form = refl
+taken_alike takes.Condition Condition = refl
+taken_alike takes.Condition form = refl
+taken_alike takes.Value Value = refl
+taken_alike takes.Value form = refl
+taken_alike takes.Described Node = refl
+taken_alike takes.Described form = refl
+taken_alike takes.Counted Condition = refl
+taken_alike takes.Counted form = refl
+taken_alike takes.Walked Stored = refl
+taken_alike takes.Walked form = refl
+taken_alike (takes.Like Unknown) form = refl
+taken_alike (takes.Like other) form = comparable_alike other form
+
 -- an expression or a name where its place takes some forms
 operand_told : (place : Takes) (form : Form) (token : ℕ) (s : Scope) → listed (misfit place form token) [] ≡ told (At token (Operand place form) s)
 operand_told place Unknown token s = refl
 operand_told place All token s = refl
-operand_told place form token s = refl
+operand_told place form token s = ap (λ t. listed (broken_if (not t) SortClash token) []) (taken_alike place form)
 
 pub operand_same : (place : Takes) (form : Form) (token : ℕ) (s : Scope) → Same (misfit place form token) (At token (Operand place form) s ∷ [])
 operand_same place form token s = place_same (misfit place form token) (At token (Operand place form) s) (operand_told place form token s)
@@ -77,17 +105,46 @@ aggregate_told : (around : Around) (token : ℕ) (s : Scope)
 aggregate_told Assigned token s = refl
 aggregate_told around token s = refl
 
+-- the form of the query of an EXISTS
+and_true : (t : Bool) → t && true ≡ t
+and_true true = refl
+and_true false = refl
+
+and_false : (t : Bool) → t && false ≡ false
+and_false true = refl
+and_false false = refl
+
+node_alike : (part : Tree AConstructPart) → sorts.is_bare_part part ≡ is_bare_node part
+node_alike (tree.NewNode (tree.NewElement token None None tree.none [] tree.none)) = refl
+node_alike part = refl
+
+bare_alike : (item : Tree AnItem) → sorts.is_bare_item item ≡ is_bare item
+bare_alike (tree.ChainItem (tree.more part tree.none) tree.none tree.none) = and_true (sorts.is_bare_part part) ∙ node_alike part
+bare_alike (tree.ChainItem (tree.more part tree.none) tree.none (tree.more f fs)) = and_false (sorts.is_bare_part part)
+bare_alike (tree.ChainItem (tree.more part tree.none) (tree.more change changes) condition) = and_false (sorts.is_bare_part part)
+bare_alike item = refl
+
+term_alike : (term : Tree ATerm) → sorts.is_bare_term term ≡ is_bare_term term
+term_alike (tree.BasicTerm (tree.Basic token (tree.more item tree.none) main tree.none)) = and_true (sorts.is_bare_item item) ∙ bare_alike item
+term_alike (tree.BasicTerm (tree.Basic token (tree.more item tree.none) main (tree.more o os))) = and_false (sorts.is_bare_item item)
+term_alike term = refl
+
+existence_alike : (query : Tree AQuery) → sorts.is_existence query ≡ is_existence query
+existence_alike (tree.Query tree.none term tree.none) = term_alike term
+existence_alike query = refl
+
 -- an EXISTS
 ask_told : (query : Option (Tree AQuery)) (token : ℕ) (s : Scope)
-    → listed (broken_if (not (unwrap_or (option_map is_existence query) false)) ExistsForm token) [] ≡ told (At token (Exists query) s)
+    → listed (broken_if (not (unwrap_or (option_map sorts.is_existence query) false)) ExistsForm token) [] ≡ told (At token (Exists query) s)
 ask_told None token s = refl
-ask_told (Some query) token s = refl
+ask_told (Some query) token s = ap (λ t. listed (broken_if (not t) ExistsForm token) []) (existence_alike query)
 
-ask_same : (s : Setting) (i token : ℕ) → Same (broken_if (not (may_ask (held s) i)) ExistsForm token) (At token (Exists (slice_get s.queries i)) s.scope ∷ [])
+ask_same : (s : Setting) (i token : ℕ)
+    → Same (broken_if (not (may_ask (held s) i)) ExistsForm token) (At token (Exists (slice_get s.queries i)) s.scope ∷ [])
 ask_same s i token =
     subst (λ o. Same (broken_if (not (unwrap_or o false)) ExistsForm token) (At token (Exists (slice_get s.queries i)) s.scope ∷ []))
-    (sym (slice_get-map is_existence s.queries i))
-    (place_same (broken_if (not (unwrap_or (option_map is_existence (slice_get s.queries i)) false)) ExistsForm token)
+    (sym (slice_get-map sorts.is_existence s.queries i))
+    (place_same (broken_if (not (unwrap_or (option_map sorts.is_existence (slice_get s.queries i)) false)) ExistsForm token)
     (At token (Exists (slice_get s.queries i)) s.scope) (ask_told (slice_get s.queries i) token s.scope))
 
 pub expression_same : {k : Kind} (s : Setting) (around : Around) (place : Takes) (at : ℕ) (e : ExprTree k)
@@ -129,8 +186,9 @@ expression_same s around place at (expr.Product e parts) =
     (in_expression s around takes.Value at e) (in_expression s around takes.Value at parts)
     (expression_same s around takes.Value at e) (expression_same s around takes.Value at parts)
 expression_same s around place at (expr.Compare how a b) =
-    subst (λ form. Same (both (expression_breaches (held s) (folds around) (left_takes how) at a) (expression_breaches (held s) (folds around) (right_takes how form) at b))
-        (in_expression s around (left_takes how) at a ++ in_expression s around (right_takes how (known.form (standing s) a)) at b))
+    subst (λ form. Same
+        (both (expression_breaches (held s) (folds around) (left_takes how) at a) (expression_breaches (held s) (folds around) (right_takes how form) at b))
+    (in_expression s around (left_takes how) at a ++ in_expression s around (right_takes how (known.form (standing s) a)) at b))
     (form_known s a)
     (both_same (expression_breaches (held s) (folds around) (left_takes how) at a)
     (expression_breaches (held s) (folds around) (right_takes how (known.form (standing s) a)) at b)
@@ -153,6 +211,6 @@ pub formula_same : (s : Setting) (around : Around) (place : Takes) (f : Tree AFo
 formula_same s around place (tree.Formula e queries) = expression_same s around place 0 e
 
 -- which queries of a row may stand behind EXISTS, as a list
-pub existences : (queries : Tree (RowOf AQuery)) → are_existence queries ≡ map is_existence (queries_of queries)
+pub existences : (queries : Tree (RowOf AQuery)) → are_existence queries ≡ map sorts.is_existence (queries_of queries)
 existences tree.none = refl
-existences (tree.more query queries) = ap (λ rest. is_existence query ∷ rest) (existences queries)
+existences (tree.more query queries) = ap (λ rest. sorts.is_existence query ∷ rest) (existences queries)

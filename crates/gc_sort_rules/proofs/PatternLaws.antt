@@ -1,23 +1,23 @@
 -- What patterns break is what their places break.
-use Rattle.std.proofs.Common.{◌≡◌, ◌⊎◌, inl, inr, ℕ, zero, suc, ◌+◌, ◌<◌, Bool, true, false, not, ◌&&◌, ◌||◌, nat_eq, if◌then◌else◌}
-use Rattle.std.proofs.Common.{List, [], ◌∷◌, ◌++◌, map, length, Option, None, Some, slice_get, refl, sym, ap, ◌∙◌, subst, append_assoc, append-nil, arith}
+use Rattle.std.proofs.Common.{ℤ, pos, negsuc, ◌≡◌, ℕ, zero, suc, ◌+◌, ◌<◌, Bool, true, false, not, ◌&&◌, nat_eq, if◌then◌else◌}
+use Rattle.std.proofs.Common.{List, [], ◌∷◌, ◌++◌, map, length, Option, None, Some, slice_get, refl, sym, subst, append_assoc, append-nil, arith}
 use Rattle.std.proofs.lemmas.Bool.Decides.{nat_tests}
 use Rattle.gc_ast.specs.declared.pattern.CountAt.{CountAt}
 use Rattle.gc_ast.specs.Trees as tree
 use Rattle.gc_ast.specs.Trees.{Tree, Named, RowOf, ABlock, AnOptional, ALocated, APattern, APathBody}
 use Rattle.gc_regx.specs.Trees.{RegexTree, ARegex}
 use Rattle.gc_sorts.specs.declared.breach.Breach.{Breach}
-use Rattle.gc_sorts.specs.declared.breach.SortRule.TheVariants.{TooLarge, SortClash, TwiceBound, SharedOptional, UnknownView}
-use Rattle.gc_sorts.specs.Breaches.{Breaches, none, one, both, IsAmong, broken, broken_if}
+use Rattle.gc_sorts.specs.declared.breach.SortRule.TheVariants.{KOutOfRange, TooLarge, SortClash, TwiceBound, SharedOptional, UnknownView}
+use Rattle.gc_sorts.specs.Breaches.{Breaches, none, both, broken, broken_if}
 use Rattle.gc_sorts.specs.Graphs.{has_name, unknown_graph, unknown_graph_if, unknown_views}
 use Rattle.gc_sorts.specs.Constructs.{is_later}
-use Rattle.gc_sorts.specs.Matches.{later_place, beside, place_breaches, each_use, shared_place, shared_breaches, same_sort}
+use Rattle.gc_sorts.specs.Matches.{beside, place_breaches, each_use, shared_place, shared_breaches}
 use Rattle.gc_sorts.specs.Patterns.{each, path_breaches, pattern_breaches, located_breaches, patterns_breaches}
-use Rattle.gc_sorts.specs.Sizes.{too_many_states, out_of_range, too_many, broken_at_if, located_tokens, optional_tokens}
+use Rattle.gc_sorts.specs.Sizes.{is_in_range, too_many_states, out_of_range, too_many, broken_at_if, located_tokens, optional_tokens}
 use Rattle.gc_sorts.specs.SortRules.{match_uses, match_breaches}
 use Rattle.gc_sorts.specs.Uses.{all_of, block_uses, optional_uses}
-use Rattle.gc_sorts.specs.Variables.{Use, sort_of, first_use, has_use}
-use Rattle.gc_sort_rules.specs.Places.{Scope, Place, Occurrence, At, ViewName, Count, Regex, Pattern, Optional, Binding}
+use Rattle.gc_sorts.specs.Variables.{Use, first_use, has_use}
+use Rattle.gc_sort_rules.specs.Places.{Scope, Place, Occurrence, At, ViewName, Count, Regex, Pattern, Optional}
 use Rattle.gc_sort_rules.specs.PatternPlaces.{numbered, graph_name, graph_name_if, view_names, count_if, in_path, in_pattern, in_located, in_patterns}
 use Rattle.gc_sort_rules.specs.PatternPlaces.{binding, bindings, optional_bindings, in_match}
 use Rattle.gc_sort_rules.specs.SortClash.{is_other}
@@ -42,9 +42,13 @@ views_same s (v ∷ vs) =
     both_same (broken_if (not (has_name s.views v.name)) UnknownView v.token) (unknown_views s.views vs) (At v.token (ViewName v.name) s ∷ [])
     (view_names s vs) (view_same s v) (views_same s vs)
 
+count_told : (k : ℤ) (token : ℕ) (s : Scope) → listed (broken_if (not (is_in_range k)) KOutOfRange token) [] ≡ told (At token (Count k) s)
+count_told (pos n) token s = refl
+count_told (negsuc n) token s = refl
+
 count_same : (s : Scope) (k : Option CountAt) → Same (out_of_range k) (count_if s k)
 count_same s None = none_same
-count_same s (Some k) = place_same (out_of_range (Some k)) (At k.token (Count k.count) s) refl
+count_same s (Some k) = place_same (out_of_range (Some k)) (At k.token (Count k.count) s) (count_told k.count k.token s)
 
 regex_same : (s : Scope) (r : RegexTree ARegex) (regex_at : ℕ) → Same (too_many_states r regex_at) (At regex_at (Regex r) s ∷ [])
 regex_same s r regex_at = place_same (too_many_states r regex_at) (At regex_at (Regex r) s) refl
@@ -125,7 +129,7 @@ two_tests false false other token rest = refl
 beside_told : (variables : List Use) (first : Option Use) (u : Use) (rest : List Breach)
     → listed (beside variables first u) rest
     ≡ listed (broken_if (is_later first u.token && (not (stands_once variables first) && is_other first u.role)) SortClash u.token)
-        (listed (broken_if (is_later first u.token && stands_once variables first) TwiceBound u.token) rest)
+    (listed (broken_if (is_later first u.token && stands_once variables first) TwiceBound u.token) rest)
 beside_told variables None u rest = refl
 beside_told variables (Some first) u rest =
     two_tests (nat_eq first.token u.token) (stands_once variables (Some first)) (is_other (Some first) u.role) u.token rest
@@ -140,7 +144,7 @@ bindings_same s mandatory us = each_use_same (place_breaches s.variables) (bindi
 
 optional_same : (s : Scope) (mandatory earlier own : List Use) (u : Use)
     → Same (both (place_breaches s.variables u) (shared_place ((mandatory ++ earlier) ++ own) (length mandatory) (length (mandatory ++ earlier)) u))
-        (binding s mandatory earlier u ∷ [])
+    (binding s mandatory earlier u ∷ [])
 optional_same s mandatory earlier own u =
     subst (λ t. Same (both (place_breaches s.variables u) (broken_if t SharedOptional u.token)) (binding s mandatory earlier u ∷ []))
     (sym (shared_is mandatory earlier own u.name))
@@ -168,7 +172,7 @@ each_use_append f (u ∷ us) vs =
 -- the places of OPTIONAL blocks in turn
 optionals_same : (s : Scope) (mandatory earlier : List Use) (os : Tree (RowOf AnOptional))
     → Same (both (each_use (place_breaches s.variables) (all_of optional_uses os)) (shared_breaches (length mandatory) (mandatory ++ earlier) os))
-        (optional_bindings s mandatory earlier os)
+    (optional_bindings s mandatory earlier os)
 optionals_same s mandatory earlier tree.none = alike_same (both none none) none [] (λ b. ((none_before none b).1, (none_before none b).0)) none_same
 optionals_same s mandatory earlier (tree.more o os) =
     let place : Use → Breaches = place_breaches s.variables in
@@ -223,6 +227,7 @@ match_same s seen main optionals e =
     (subst (λ uses. Same (each_use (place_breaches uses) (block_uses main)) (bindings s m [] (block_uses main))) e (bindings_same s m (block_uses main)))
     (both_same (both (each_use place later) shared) large (optional_bindings s m [] optionals) (numbered s Optional 0 (optional_tokens optionals))
     (subst (λ uses. Same (both (each_use (place_breaches uses) later) shared) (optional_bindings s m [] optionals)) e
-    (subst (λ uses. Same (both (each_use (place_breaches s.variables) later) (shared_breaches (length m) uses optionals)) (optional_bindings s m [] optionals))
+    (subst (λ uses. Same (both (each_use (place_breaches s.variables) later) (shared_breaches (length m) uses optionals))
+        (optional_bindings s m [] optionals))
     (append-nil m) (optionals_same s m [] optionals)))
     (optional_count_same s (optional_tokens optionals))))

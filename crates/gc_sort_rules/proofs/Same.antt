@@ -4,7 +4,9 @@ use Rattle.gc_ast.specs.Trees as tree
 use Rattle.gc_ast.specs.Trees.{TreeOf, RowOf}
 use Rattle.gc_sorts.specs.declared.breach.Breach.{Breach}
 use Rattle.gc_sorts.specs.declared.breach.SortRule.{SortRule}
-use Rattle.gc_sorts.specs.declared.breach.SortRule.TheVariants.{UnknownGraph, UnknownView, UnknownName, SortClash, TwiceBound, SharedOptional, AllNotProjected, LooseEdge, TwiceGrouped, ViewNeedsEdge, KOutOfRange, AggregateHere, ExistsForm, NameTaken, TooLarge}
+use Rattle.gc_sorts.specs.declared.breach.SortRule.TheVariants.{UnknownGraph, UnknownView, UnknownName, SortClash, TwiceBound}
+use Rattle.gc_sorts.specs.declared.breach.SortRule.TheVariants.{SharedOptional, AllNotProjected, LooseEdge, TwiceGrouped, ViewNeedsEdge}
+use Rattle.gc_sorts.specs.declared.breach.SortRule.TheVariants.{KOutOfRange, AggregateHere, ExistsForm, NameTaken, TooLarge}
 use Rattle.gc_sorts.specs.Breaches.{Breaches, none, one, both, IsAmong, broken_if}
 use Rattle.gc_sorts.specs.Matches.{each_use}
 use Rattle.gc_sorts.specs.Patterns.{each}

@@ -1,7 +1,7 @@
 -- A variable of a later OPTIONAL has its first place behind the mandatory ones and before this OPTIONAL just where an
 -- earlier OPTIONAL has it and the mandatory patterns have not.
 use Rattle.std.proofs.Common.{◌≡◌, ℕ, ◌+◌, ◌<◌, ◌≤◌, Bool, true, false, cond, not, ◌&&◌, ◌||◌, nat_lt}
-use Rattle.std.proofs.Common.{List, [], ◌∷◌, ◌++◌, map, length, Option, None, Some, is_some, refl, sym, ap, ◌∙◌, subst, append_assoc, length-append, arith}
+use Rattle.std.proofs.Common.{List, [], ◌∷◌, ◌++◌, length, None, Some, is_some, refl, sym, ap, ◌∙◌, append_assoc, length-append, arith}
 use Rattle.std.specs.List.{list_any, find, position, position_or_len}
 use Rattle.std.proofs.lemmas.Bool.Decides.{nat_tests}
 use Rattle.std.proofs.lemmas.List.{length-map, map-append}
@@ -95,12 +95,21 @@ pub shared_is : (mandatory earlier own : List Use) (name : List ℕ)
 shared_is mandatory earlier own name =
     ap (λ upto. is_between (length mandatory) upto (first_place (use_names ((mandatory ++ earlier) ++ own)) name)) lengths
     ∙ (ap (λ names. is_between (length mandatory) (length mandatory + length earlier) (first_place names name)) names_of
-    ∙ (ap (λ m. is_between m (m + length earlier) (first_place (use_names mandatory ++ (use_names earlier ++ use_names own)) name)) (sym (length-map mandatory _))
-    ∙ (ap (λ m. is_between (length (use_names mandatory)) (length (use_names mandatory) + m) (first_place (use_names mandatory ++ (use_names earlier ++ use_names own)) name)) (sym (length-map earlier _))
-    ∙ (between (same_name name) (use_names mandatory) (use_names earlier) (use_names own)
-    ∙ (ap (λ t. t && not (list_any (same_name name) (use_names mandatory))) (sym (has_name_of earlier name))
+    ∙ (ap (λ m. is_between m (m + length earlier) (first_place whole name)) (sym (length-map mandatory _))
+    ∙ (ap (λ m. is_between (length first) (length first + m) (first_place whole name)) (sym (length-map earlier _))
+    ∙ (between (same_name name) first second (use_names own)
+    ∙ (ap (λ t. t && not (list_any (same_name name) first)) (sym (has_name_of earlier name))
     ∙ ap (λ t. has_use earlier name && not t) (sym (has_name_of mandatory name)))))))
   where
+    first : List (List ℕ)
+    first = use_names mandatory
+
+    second : List (List ℕ)
+    second = use_names earlier
+
+    whole : List (List ℕ)
+    whole = first ++ (second ++ use_names own)
+
     lengths : length (mandatory ++ earlier) ≡ length mandatory + length earlier
     lengths = length-append mandatory earlier
 

@@ -1,33 +1,38 @@
 -- What a query file breaks is what its places break.
-use Rattle.std.proofs.Common.{◌≡◌, ◌↔◌, ◌⊎◌, inl, inr, ℕ, zero, suc, ◌<◌, Bool, false, not, List, [], ◌∷◌, ◌++◌, length, Any, refl, sym, ap, ◌∙◌, subst, append_assoc, append-nil, arith}
+use Rattle.std.proofs.Common.{◌≡◌, ◌↔◌, inl, inr, ℕ, zero, suc, false, not, List, [], ◌∷◌, ◌++◌, Any, refl, sym, ap, ap₂, ◌||◌, ◌∙◌, subst}
+use Rattle.std.proofs.Common.{append_assoc, append-nil, arith}
 use Rattle.gc_ast.specs.Trees as tree
 use Rattle.gc_ast.specs.Trees.{Tree, Kind, Named, RowOf, AStatement, AQuery, AFormula, APattern, AnItem, ABlock, AnOptional, ALocated}
 use Rattle.gc_sorts.specs.declared.breach.Breach.{Breach}
 use Rattle.gc_sorts.specs.declared.breach.SortRule.{SortRule}
 use Rattle.gc_sorts.specs.declared.breach.SortRule.TheVariants.{ViewNeedsEdge}
 use Rattle.gc_sorts.specs.declared.form.Takes.TheVariants as takes
-use Rattle.gc_sorts.specs.Breaches.{Breaches, none, both, IsAmong, broken_if}
+use Rattle.gc_sorts.specs.Breaches.{Breaches, both, IsAmong, broken_if}
 use Rattle.gc_sorts.specs.Constructs.{formula_breaches}
 use Rattle.gc_sorts.specs.Expressions.{expression_breaches}
 use Rattle.gc_sorts.specs.Graphs.{taken}
 use Rattle.gc_sorts.specs.Matches.{place_breaches, each_use}
-use Rattle.gc_sorts.specs.Patterns.{each, pattern_breaches, patterns_breaches, chains_breaches, begins_with_edge}
+use Rattle.gc_sorts.specs.Patterns as sort_patterns
+use Rattle.gc_sorts.specs.Patterns.{each, pattern_breaches, patterns_breaches, begins_with_edge}
 use Rattle.gc_sorts.specs.Sizes.{too_many, pattern_tokens}
 use Rattle.gc_sorts.specs.SortRules as sorts
-use Rattle.gc_sorts.specs.SortRules.{Sights, graphs_in, where_, in_view, view_uses, view_breaches, match_breaches, construct_breaches, seen_in, breaches, file_breaches}
-use Rattle.gc_sorts.specs.Uses.{all_of, pattern_uses, located_uses}
+use Rattle.gc_sorts.specs.SortRules.{Sights, graphs_in, where_, in_view, view_uses, view_breaches, match_breaches, construct_breaches}
+use Rattle.gc_sorts.specs.SortRules.{seen_in, breaches, file_breaches}
+use Rattle.gc_sorts.specs.Uses.{all_of, pattern_uses}
 use Rattle.gc_sorts.specs.Variables.{Use}
 use Rattle.gc_sort_rules.specs.ConstructPlaces.{in_item}
 use Rattle.gc_sort_rules.specs.ExpressionPlaces.{Setting, in_expression, in_formula, queries_of}
 use Rattle.gc_sort_rules.specs.Occurrences as places
-use Rattle.gc_sort_rules.specs.Occurrences.{with_graph, with_view, with_variables, behind, behind_all, in_scope, construct, occurrences, file_occurrences}
-use Rattle.gc_sort_rules.specs.PatternPlaces.{numbered, graph_name, in_pattern, in_patterns, bindings, in_match}
+use Rattle.gc_sort_rules.specs.Occurrences.{with_graph, with_view, with_variables, behind, behind_all, in_scope, construct, occurrences}
+use Rattle.gc_sort_rules.specs.Occurrences.{file_occurrences}
+use Rattle.gc_sort_rules.specs.PatternPlaces.{numbered, in_pattern, in_patterns, bindings, in_match}
 use Rattle.gc_sort_rules.specs.Places.{Scope, Occurrence, At, NewGraph, NewView, Pattern, Elsewhere}
+use Rattle.gc_sort_rules.specs.ViewNeedsEdge.{is_edge, has_edge, first_has_edge}
 use Rattle.gc_sort_rules.specs.Rules.{BreaksAt, Breaks}
 use Rattle.gc_sort_rules.proofs.ConstructLaws.{items_same}
-use Rattle.gc_sort_rules.proofs.ExpressionLaws.{held, expression_same, formula_same, existences}
+use Rattle.gc_sort_rules.proofs.ExpressionLaws.{expression_same, formula_same, existences}
 use Rattle.gc_sort_rules.proofs.PatternLaws.{graph_same, pattern_same, patterns_same, pattern_count_same, bindings_same, match_same}
-use Rattle.gc_sort_rules.proofs.Same.{Same, BrokenIn, Alike, alike_same, none_same, both_same, swapped, second_first, grouped, then_alike, alike_right, each_same, place_same, listed, told}
+use Rattle.gc_sort_rules.proofs.Same.{Same, BrokenIn, Alike, alike_same, none_same, both_same, second_first, each_same, place_same, listed}
 
 -- what is in scope, as gc_sorts has it
 abbrev scope_of : Sights → Scope
@@ -46,6 +51,19 @@ behind_all_of : {k : Kind} (s : Sights) (ts : Tree (RowOf k)) → scope_of (sort
 behind_all_of s tree.none = refl
 behind_all_of s (tree.more t ts) = behind_all_of (sorts.behind s t) ts ∙ ap (λ scope. behind_all scope ts) (behind_of s t)
 
+-- whether the first chain of a PATH has an edge
+edge_alike : (p : Tree APattern) → sort_patterns.is_edge p ≡ is_edge p
+edge_alike (tree.Edge way element) = refl
+edge_alike pattern = refl
+
+edges_alike : (parts : Tree (RowOf APattern)) → sort_patterns.has_edge parts ≡ has_edge parts
+edges_alike tree.none = refl
+edges_alike (tree.more part parts) = ap₂ (λ a b. a || b) (edge_alike part) (edges_alike parts)
+
+first_edge_alike : (chains : Tree (RowOf (RowOf APattern))) → begins_with_edge chains ≡ first_has_edge chains
+first_edge_alike tree.none = refl
+first_edge_alike (tree.more chain chains) = edges_alike chain
+
 -- the name that a GRAPH gives, and that of a PATH
 new_graph_same : (s : Scope) (g : Named) → Same (taken s.graphs g) (At g.token (NewGraph g.name) s ∷ [])
 new_graph_same s g = place_same (taken s.graphs g) (At g.token (NewGraph g.name) s) refl
@@ -53,11 +71,13 @@ new_graph_same s g = place_same (taken s.graphs g) (At g.token (NewGraph g.name)
 new_view_same : (s : Scope) (v : Named) (chains : Tree (RowOf (RowOf APattern)))
     → Same (both (broken_if (not (begins_with_edge chains)) ViewNeedsEdge v.token) (taken s.views v)) (At v.token (NewView v.name chains) s ∷ [])
 new_view_same s v chains =
-    place_same (both (broken_if (not (begins_with_edge chains)) ViewNeedsEdge v.token) (taken s.views v)) (At v.token (NewView v.name chains) s) refl
+    place_same (both (broken_if (not (begins_with_edge chains)) ViewNeedsEdge v.token) (taken s.views v)) (At v.token (NewView v.name chains) s)
+    (ap (λ t. listed (broken_if (not t) ViewNeedsEdge v.token) (listed (taken s.views v) [])) (first_edge_alike chains))
 
 -- a PATH
 view_alike : (name edge chains count variables rest : Breaches)
-    → Alike (both name (both (both edge (both chains count)) (both variables rest))) (both (both edge name) (both chains (both count (both variables rest))))
+    → Alike (both name (both (both edge (both chains count)) (both variables rest)))
+        (both (both edge name) (both chains (both count (both variables rest))))
 view_alike name edge chains count variables rest b = (into, out)
   where
     into : IsAmong b (both name (both (both edge (both chains count)) (both variables rest)))
@@ -78,7 +98,7 @@ view_alike name edge chains count variables rest b = (into, out)
 
 view_same : (s : Sights) (v : Named) (chains : Tree (RowOf (RowOf APattern))) (filter cost : Tree (RowOf AFormula))
     → Same (view_breaches s v chains filter cost)
-        (At v.token (NewView v.name chains) (scope_of s) ∷ places.in_view (with_variables (scope_of s) (view_uses s chains)) chains filter cost)
+    (At v.token (NewView v.name chains) (scope_of s) ∷ places.in_view (with_variables (scope_of s) (view_uses s chains)) chains filter cost)
 view_same s v chains filter cost =
     let inside : Scope = with_variables (scope_of s) (view_uses s chains) in
     let uses : List Use = all_of (all_of pattern_uses) chains in
@@ -99,8 +119,10 @@ view_same s v chains filter cost =
     (view_alike name edge walks (too_many tokens) bound (both asked paid))
     (both_same (both edge name) (both walks (both (too_many tokens) (both bound (both asked paid)))) (At v.token (NewView v.name chains) (scope_of s) ∷ [])
     (in_walks ++ (numbered inside Pattern 0 tokens ++ (in_bound ++ (in_asked ++ in_paid)))) (new_view_same (scope_of s) v chains)
-    (both_same walks (both (too_many tokens) (both bound (both asked paid))) in_walks (numbered inside Pattern 0 tokens ++ (in_bound ++ (in_asked ++ in_paid)))
-    (each_same (each (pattern_breaches s.views)) (all_of (in_pattern inside)) (each_same (pattern_breaches s.views) (in_pattern inside) (pattern_same inside)) chains)
+    (both_same walks (both (too_many tokens) (both bound (both asked paid))) in_walks
+    (numbered inside Pattern 0 tokens ++ (in_bound ++ (in_asked ++ in_paid)))
+    (each_same (each (pattern_breaches s.views)) (all_of (in_pattern inside))
+    (each_same (pattern_breaches s.views) (in_pattern inside) (pattern_same inside)) chains)
     (both_same (too_many tokens) (both bound (both asked paid)) (numbered inside Pattern 0 tokens) (in_bound ++ (in_asked ++ in_paid))
     (pattern_count_same inside tokens)
     (both_same bound (both asked paid) in_bound (in_asked ++ in_paid) (bindings_same inside inside.variables uses)
@@ -121,7 +143,8 @@ tree_same s (tree.Query heads first rest) =
     both_same (breaches s heads) (both (breaches (sorts.behind_all s heads) first) (breaches (sorts.behind_all s heads) rest))
     (occurrences (scope_of s) heads) (occurrences (behind_all (scope_of s) heads) first ++ occurrences (behind_all (scope_of s) heads) rest)
     (tree_same s heads)
-    (subst (λ scope. Same (both (breaches (sorts.behind_all s heads) first) (breaches (sorts.behind_all s heads) rest)) (occurrences scope first ++ occurrences scope rest))
+    (subst (λ scope. Same (both (breaches (sorts.behind_all s heads) first) (breaches (sorts.behind_all s heads) rest))
+        (occurrences scope first ++ occurrences scope rest))
     (behind_all_of s heads)
     (both_same (breaches (sorts.behind_all s heads) first) (breaches (sorts.behind_all s heads) rest)
     (occurrences (scope_of (sorts.behind_all s heads)) first) (occurrences (scope_of (sorts.behind_all s heads)) rest)
@@ -157,7 +180,8 @@ tree_same s (tree.Formula e queries) =
     let setting : Setting = record { scope = scope_of s; stored = []; queries = queries_of queries } in
     both_same (expression_breaches (where_ s.uses queries) false takes.Condition 0 e) (breaches s queries)
     (in_expression setting Elsewhere takes.Condition 0 e) (occurrences (scope_of s) queries)
-    (subst (λ exists. Same (expression_breaches (record { uses = s.uses; stored = []; exists = exists }) false takes.Condition 0 e) (in_expression setting Elsewhere takes.Condition 0 e))
+    (subst (λ exists. Same (expression_breaches (record { uses = s.uses; stored = []; exists = exists }) false takes.Condition 0 e)
+        (in_expression setting Elsewhere takes.Condition 0 e))
     (sym (existences queries)) (expression_same setting Elsewhere takes.Condition 0 e))
     (tree_same s queries)
 tree_same s tree.none = none_same

@@ -1,5 +1,5 @@
 -- The first breach is the first of those that the fifteen rules name.
-use Rattle.std.proofs.Common.{◌≡◌, ◌↔◌, ℕ, List, Option, None, Some, Result, Ok, Err, refl, sym, subst}
+use Rattle.std.proofs.Common.{◌↔◌, ℕ, List, Option, None, Some, Result, Ok, Err, sym, subst}
 use Rattle.gc_ast.specs.QueryViews.{file_trees}
 use Rattle.gc_ast.specs.Trees.{Tree, RowOf, AStatement, row}
 use Rattle.gc_ast.specs.declared.file.File.{File}
@@ -43,4 +43,5 @@ pub verdict : BreachesLaw → FirstLaw → (file : File) (graphs : List (List �
     → IsChecked file graphs (first_breach graphs (row (file_trees file))) outcome → IsVerdict file graphs outcome
 verdict law first_law file graphs outcome h =
     verdict_by file graphs (first_breach graphs (row (file_trees file))) outcome
-    (first_is_first law graphs (row (file_trees file)) (first_breach graphs (row (file_trees file))) (first_law (file_breaches graphs (row (file_trees file))))) h
+    (first_is_first law graphs (row (file_trees file)) (first_breach graphs (row (file_trees file)))
+    (first_law (file_breaches graphs (row (file_trees file))))) h

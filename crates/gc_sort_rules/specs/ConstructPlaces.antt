@@ -1,12 +1,10 @@
 -- The places in the items of a CONSTRUCT.
 use Rattle.std.specs.Prelude.{ℕ, ◌+◌, List, [], ◌∷◌, ◌++◌, map, Option, Some, None}
-use Rattle.gc_base.specs.declared.place.Direction.{Direction}
 use Rattle.gc_base.specs.declared.place.Direction.TheVariants.{Forward}
 use Rattle.gc_ast.specs.Trees as tree
 use Rattle.gc_ast.specs.Trees.{Tree, Named, RowOf, AnItem, AConstructPart, ANewElement, AGroupTerm, AnAssign, AChange}
 use Rattle.gc_sorts.specs.declared.form.Form.{Form}
 use Rattle.gc_sorts.specs.declared.form.Form.TheVariants as form
-use Rattle.gc_sorts.specs.declared.form.Takes.{Takes}
 use Rattle.gc_sorts.specs.declared.form.Takes.TheVariants as takes
 use Rattle.gc_sorts.specs.declared.sort.Role.{Role}
 use Rattle.gc_sorts.specs.declared.sort.Role.TheVariants as role
@@ -14,7 +12,8 @@ use Rattle.gc_sorts.specs.Constructs.{Made, group_uses, copy_uses, term_takes}
 use Rattle.gc_sorts.specs.Links.{Link, name_if, part_name, front_part_name, bracket}
 use Rattle.gc_sorts.specs.Uses.{all_of}
 use Rattle.gc_sorts.specs.Variables.{Use}
-use Rattle.gc_sort_rules.specs.Places.{Scope, Occurrence, At, Name, Operand, Projected, Target, Group, Copy, EdgeName, EdgeLink, PathLink, Around, Assigned, Elsewhere}
+use Rattle.gc_sort_rules.specs.Places.{Scope, Occurrence, At, Name, Operand, Projected, Target, Group, Copy, EdgeName, EdgeLink, PathLink}
+use Rattle.gc_sort_rules.specs.Places.{Assigned, Elsewhere}
 use Rattle.gc_sort_rules.specs.ExpressionPlaces.{Setting, name_form, named, in_formula}
 use Rattle.gc_sort_rules.specs.PatternPlaces.{graph_name}
 

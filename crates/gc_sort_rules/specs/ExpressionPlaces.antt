@@ -1,5 +1,5 @@
 -- The places in expressions: each expression and each name, by what it is and what its place takes, aggregates and EXISTS.
-use Rattle.std.specs.Prelude.{ℕ, ◌+◌, List, [], ◌∷◌, ◌++◌, Option, slice_get}
+use Rattle.std.specs.Prelude.{ℕ, ◌+◌, List, [], ◌∷◌, ◌++◌, slice_get}
 use Rattle.gc_expr.specs.Trees as expr
 use Rattle.gc_expr.specs.Trees.{ExprTree, Kind}
 use Rattle.gc_ast.specs.Trees as tree
@@ -9,7 +9,7 @@ use Rattle.gc_sorts.specs.declared.form.Takes.{Takes}
 use Rattle.gc_sorts.specs.declared.form.Takes.TheVariants as takes
 use Rattle.gc_sorts.specs.Expressions as known
 use Rattle.gc_sorts.specs.Expressions.{Standing, left_takes, right_takes, fold_takes}
-use Rattle.gc_sort_rules.specs.Places.{Scope, Occurrence, At, Name, Operand, Aggregate, Exists, Around, Assigned, Aggregated, Elsewhere}
+use Rattle.gc_sort_rules.specs.Places.{Scope, Occurrence, At, Name, Operand, Aggregate, Exists, Around, Aggregated}
 
 -- where an expression stands: what is in scope; the paths that the CONSTRUCT stores, where they may be described; in the
 -- WHERE of a block the queries of its EXISTS, elsewhere none

@@ -2,7 +2,9 @@
 use Rattle.std.specs.Prelude.{◌≡◌, ℕ, Bool, true, List, Any}
 use Rattle.gc_ast.specs.Trees.{Tree, RowOf, AStatement}
 use Rattle.gc_sorts.specs.declared.breach.SortRule.{SortRule}
-use Rattle.gc_sorts.specs.declared.breach.SortRule.TheVariants.{UnknownGraph, UnknownView, UnknownName, SortClash, TwiceBound, SharedOptional, AllNotProjected, LooseEdge, TwiceGrouped, ViewNeedsEdge, KOutOfRange, AggregateHere, ExistsForm, NameTaken, TooLarge}
+use Rattle.gc_sorts.specs.declared.breach.SortRule.TheVariants.{UnknownGraph, UnknownView, UnknownName, SortClash, TwiceBound}
+use Rattle.gc_sorts.specs.declared.breach.SortRule.TheVariants.{SharedOptional, AllNotProjected, LooseEdge, TwiceGrouped, ViewNeedsEdge}
+use Rattle.gc_sorts.specs.declared.breach.SortRule.TheVariants.{KOutOfRange, AggregateHere, ExistsForm, NameTaken, TooLarge}
 use Rattle.gc_sort_rules.specs.Places.{Occurrence, token_of}
 use Rattle.gc_sort_rules.specs.Occurrences.{file_occurrences}
 use Rattle.gc_sort_rules.specs.UnknownGraph as unknown_graph

@@ -1,7 +1,7 @@
 -- S5. A path that is searched for, an ALL path or a cost stands in a second place in scope. A variable of a property that
 -- stands behind COST too is a cost.
 -- `CONSTRUCT (n) MATCH (n)-/p<_>/->(m)-/p<_>/->(n)` breaks it at the second `p`.
-use Rattle.std.specs.Prelude.{ℕ, List, Bool, false, ◌&&◌, ◌||◌, Option, Some, None}
+use Rattle.std.specs.Prelude.{List, Bool, false, ◌&&◌, ◌||◌, Option, Some, None}
 use Rattle.gc_sorts.specs.Constructs.{is_later}
 use Rattle.gc_sorts.specs.Variables.{Use, is_single, is_property, first_use, has_cost}
 use Rattle.gc_sort_rules.specs.Places.{Occurrence, At, Binding}
