@@ -187,7 +187,7 @@ expression_same s around place at (expr.Product e parts) =
     (expression_same s around takes.Value at e) (expression_same s around takes.Value at parts)
 expression_same s around place at (expr.Compare how a b) =
     subst (λ form. Same
-        (both (expression_breaches (held s) (folds around) (left_takes how) at a) (expression_breaches (held s) (folds around) (right_takes how form) at b))
+    (both (expression_breaches (held s) (folds around) (left_takes how) at a) (expression_breaches (held s) (folds around) (right_takes how form) at b))
     (in_expression s around (left_takes how) at a ++ in_expression s around (right_takes how (known.form (standing s) a)) at b))
     (form_known s a)
     (both_same (expression_breaches (held s) (folds around) (left_takes how) at a)

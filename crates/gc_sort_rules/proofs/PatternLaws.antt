@@ -228,6 +228,6 @@ match_same s seen main optionals e =
     (both_same (both (each_use place later) shared) large (optional_bindings s m [] optionals) (numbered s Optional 0 (optional_tokens optionals))
     (subst (λ uses. Same (both (each_use (place_breaches uses) later) shared) (optional_bindings s m [] optionals)) e
     (subst (λ uses. Same (both (each_use (place_breaches s.variables) later) (shared_breaches (length m) uses optionals))
-        (optional_bindings s m [] optionals))
+    (optional_bindings s m [] optionals))
     (append-nil m) (optionals_same s m [] optionals)))
     (optional_count_same s (optional_tokens optionals))))

@@ -77,7 +77,7 @@ new_view_same s v chains =
 -- a PATH
 view_alike : (name edge chains count variables rest : Breaches)
     → Alike (both name (both (both edge (both chains count)) (both variables rest)))
-        (both (both edge name) (both chains (both count (both variables rest))))
+    (both (both edge name) (both chains (both count (both variables rest))))
 view_alike name edge chains count variables rest b = (into, out)
   where
     into : IsAmong b (both name (both (both edge (both chains count)) (both variables rest)))
@@ -144,7 +144,7 @@ tree_same s (tree.Query heads first rest) =
     (occurrences (scope_of s) heads) (occurrences (behind_all (scope_of s) heads) first ++ occurrences (behind_all (scope_of s) heads) rest)
     (tree_same s heads)
     (subst (λ scope. Same (both (breaches (sorts.behind_all s heads) first) (breaches (sorts.behind_all s heads) rest))
-        (occurrences scope first ++ occurrences scope rest))
+    (occurrences scope first ++ occurrences scope rest))
     (behind_all_of s heads)
     (both_same (breaches (sorts.behind_all s heads) first) (breaches (sorts.behind_all s heads) rest)
     (occurrences (scope_of (sorts.behind_all s heads)) first) (occurrences (scope_of (sorts.behind_all s heads)) rest)
@@ -181,7 +181,7 @@ tree_same s (tree.Formula e queries) =
     both_same (expression_breaches (where_ s.uses queries) false takes.Condition 0 e) (breaches s queries)
     (in_expression setting Elsewhere takes.Condition 0 e) (occurrences (scope_of s) queries)
     (subst (λ exists. Same (expression_breaches (record { uses = s.uses; stored = []; exists = exists }) false takes.Condition 0 e)
-        (in_expression setting Elsewhere takes.Condition 0 e))
+    (in_expression setting Elsewhere takes.Condition 0 e))
     (sym (existences queries)) (expression_same setting Elsewhere takes.Condition 0 e))
     (tree_same s queries)
 tree_same s tree.none = none_same

@@ -1,7 +1,7 @@
 -- S13. An EXISTS stands elsewhere than in the WHERE of a MATCH, an OPTIONAL or an EXISTS; or its query is not
 -- `CONSTRUCT ()` with one MATCH block.
 -- `CONSTRUCT (n) MATCH (n) WHERE EXISTS (g)` breaks it at EXISTS.
-use Rattle.std.specs.Prelude.{List, [], Bool, true, false, not, Option, Some, None}
+use Rattle.std.specs.Prelude.{[], Bool, true, false, not, Some, None}
 use Rattle.gc_ast.specs.Trees as tree
 use Rattle.gc_ast.specs.Trees.{Tree, AQuery, ATerm, AnItem, AConstructPart}
 use Rattle.gc_sort_rules.specs.Places.{Occurrence, At, Exists}
