@@ -1,5 +1,5 @@
 -- What the items of a CONSTRUCT break is what their places break.
-use Rattle.std.proofs.Common.{◌≡◌, ℕ, ◌+◌, Bool, true, false, not, ◌&&◌, ◌||◌, if◌then◌else◌, List, [], ◌∷◌, ◌++◌, map, Option, None, Some}
+use Rattle.std.proofs.Common.{inl, inr, ◌≡◌, ℕ, ◌+◌, Bool, true, false, not, ◌&&◌, ◌||◌, if◌then◌else◌, List, [], ◌∷◌, ◌++◌, map, Option, None, Some}
 use Rattle.std.proofs.Common.{refl, sym, subst}
 use Rattle.gc_base.specs.declared.place.Direction.{Direction}
 use Rattle.gc_base.specs.declared.place.Direction.TheVariants.{Forward}
@@ -12,7 +12,7 @@ use Rattle.gc_sorts.specs.declared.form.Form.TheVariants as form
 use Rattle.gc_sorts.specs.declared.form.Takes.TheVariants as takes
 use Rattle.gc_sorts.specs.declared.sort.Role.{Role}
 use Rattle.gc_sorts.specs.declared.sort.Role.TheVariants as role
-use Rattle.gc_sorts.specs.Breaches.{Breaches, none, both, broken, broken_if}
+use Rattle.gc_sorts.specs.Breaches.{Breaches, IsAmong, none, both, broken, broken_if}
 use Rattle.gc_sorts.specs.Constructs.{Made, Making, making, group_uses, copy_uses, term_takes, formula_breaches, assign_breaches}
 use Rattle.gc_sorts.specs.Constructs.{made_breaches, copy_breaches, term_breaches}
 use Rattle.gc_sorts.specs.Constructs.{is_later, twice, each_twice, second_edge, element_breaches, edge_breaches, projected_misfit}
@@ -29,14 +29,15 @@ use Rattle.gc_sorts.specs.Variables.{Use, has_use}
 use Rattle.gc_sort_rules.specs.AllNotProjected.{is_all}
 use Rattle.gc_sort_rules.specs.ConstructPlaces.{Construct, given, when_scope, when_, in_assign, element_name, copied, in_term, group_at}
 use Rattle.gc_sort_rules.specs.ConstructPlaces.{copy_at, in_element, edge_name, in_edge, in_part}
-use Rattle.gc_sort_rules.specs.ConstructPlaces.{target, in_change, link_at, links_of, in_item}
+use Rattle.gc_sort_rules.specs.ConstructPlaces.{target, in_change, link_at, in_parts, in_item}
 use Rattle.gc_sort_rules.specs.ExpressionPlaces.{name_form, named, in_formula}
 use Rattle.gc_sort_rules.specs.LooseEdge.{is_loose}
 use Rattle.gc_sort_rules.specs.PatternPlaces.{graph_name}
 use Rattle.gc_sort_rules.specs.Places.{Scope, Occurrence, At, Name, Projected, EdgeName, EdgeLink, PathLink, Assigned, Elsewhere}
 use Rattle.gc_sort_rules.proofs.ExpressionLaws.{name_same, named_same, operand_same, formula_same}
 use Rattle.gc_sort_rules.proofs.PatternLaws.{graph_same}
-use Rattle.gc_sort_rules.proofs.Same.{Same, alike_same, none_same, both_same, swapped, each_same, each_pair_same, place_same, listed, told}
+use Rattle.gc_sort_rules.proofs.Same.{Same, Alike, alike_same, none_same, none_before, both_same, then_alike, swapped, pairs, grouped, ungrouped}
+use Rattle.gc_sort_rules.proofs.Same.{each_same, each_pair_same, place_same, listed, told}
 
 -- what a CONSTRUCT sees, as gc_sorts has it
 abbrev pub held : Construct → Making
@@ -73,27 +74,46 @@ copies_same c (u ∷ us) =
     both_same (twice c.scope.variables c.names.copies u) (each_twice c.scope.variables c.names.copies us) (copy_at c u ∷ []) (map (copy_at c) us)
     (place_same (twice c.scope.variables c.names.copies u) (copy_at c u) refl) (copies_same c us)
 
+element_alike : (copy terms groups copies assigned : Breaches)
+    → Alike (both copy (both terms (both groups (both copies assigned)))) (both copies (both copy (both groups (both terms assigned))))
+element_alike copy terms groups copies assigned b = (into, out)
+  where
+    into : IsAmong b (both copy (both terms (both groups (both copies assigned)))) → IsAmong b (both copies (both copy (both groups (both terms assigned))))
+    into (inl m) = inr (inl m)
+    into (inr (inl m)) = inr (inr (inr (inl m)))
+    into (inr (inr (inl m))) = inr (inr (inl m))
+    into (inr (inr (inr (inl m)))) = inl m
+    into (inr (inr (inr (inr m)))) = inr (inr (inr (inr m)))
+
+    out : IsAmong b (both copies (both copy (both groups (both terms assigned)))) → IsAmong b (both copy (both terms (both groups (both copies assigned))))
+    out (inl m) = inr (inr (inr (inl m)))
+    out (inr (inl m)) = inl m
+    out (inr (inr (inl m))) = inr (inr (inl m))
+    out (inr (inr (inr (inl m)))) = inr (inl m)
+    out (inr (inr (inr (inr m)))) = inr (inr (inr (inr m)))
+
 element_same : (c : Construct) (kind : Form) (role : Role) (e : Tree ANewElement) → Same (element_breaches (held c) kind role e) (in_element c kind role e)
 element_same c kind role (tree.NewElement token name copy group labels assigns) =
     let assigned : Breaches = each (assign_breaches (held c)) assigns in
     let copies : Breaches = each_twice c.scope.variables c.names.copies (copy_uses role name copy) in
     let groups : Breaches = each_twice c.scope.variables c.names.groups (group_uses role name group) in
     let terms : Breaches = each (term_breaches (held c)) group in
+    let original : Breaches = copy_breaches (held c) kind copy in
     let in_assigned : List Occurrence = all_of (in_assign c) assigns in
     let in_copies : List Occurrence = map (copy_at c) (copy_uses role name copy) in
     let in_groups : List Occurrence = map (group_at c) (group_uses role name group) in
     let in_terms : List Occurrence = all_of (in_term c) group in
-    both_same (made_breaches (held c) kind name) (both (copy_breaches (held c) kind copy) (both terms (both groups (both copies assigned))))
-    (element_name c kind name) (copied c kind copy ++ (in_terms ++ (in_groups ++ (in_copies ++ in_assigned))))
+    both_same (made_breaches (held c) kind name) (both original (both terms (both groups (both copies assigned))))
+    (element_name c kind name) (in_copies ++ (copied c kind copy ++ (in_groups ++ (in_terms ++ in_assigned))))
     (element_name_same c kind name)
-    (both_same (copy_breaches (held c) kind copy) (both terms (both groups (both copies assigned)))
-    (copied c kind copy) (in_terms ++ (in_groups ++ (in_copies ++ in_assigned)))
+    (alike_same (both original (both terms (both groups (both copies assigned)))) (both copies (both original (both groups (both terms assigned))))
+    (in_copies ++ (copied c kind copy ++ (in_groups ++ (in_terms ++ in_assigned)))) (element_alike original terms groups copies assigned)
+    (both_same copies (both original (both groups (both terms assigned))) in_copies (copied c kind copy ++ (in_groups ++ (in_terms ++ in_assigned)))
+    (copies_same c (copy_uses role name copy))
+    (both_same original (both groups (both terms assigned)) (copied c kind copy) (in_groups ++ (in_terms ++ in_assigned))
     (copied_same c kind copy)
-    (both_same terms (both groups (both copies assigned)) in_terms (in_groups ++ (in_copies ++ in_assigned))
-    (each_same (term_breaches (held c)) (in_term c) (term_same c) group)
-    (both_same groups (both copies assigned) in_groups (in_copies ++ in_assigned)
-    (groups_same c (group_uses role name group))
-    (both_same copies assigned in_copies in_assigned (copies_same c (copy_uses role name copy)) (assigns_same c assigns)))))
+    (both_same groups (both terms assigned) in_groups (in_terms ++ in_assigned) (groups_same c (group_uses role name group))
+    (both_same terms assigned in_terms in_assigned (each_same (term_breaches (held c)) (in_term c) (term_same c) group) (assigns_same c assigns))))))
 
 -- the name of an edge besides
 edge_name_same : (c : Construct) (name : Option Named) → Same (second_edge (held c) name) (edge_name c name)
@@ -186,13 +206,22 @@ link_same c left right (tree.Projected token path) =
 link_same c left right (tree.NewStored token path labels assigns) =
     path_link_same c (record { name = path.name; left = left; right = right; way = Forward }) (token + 1)
 
-links_same : (c : Construct) (left : Option (List ℕ)) (parts : Tree (RowOf AConstructPart))
-    → Same (loose_parts c.scope.variables c.links left parts) (links_of c left parts)
-links_same c left tree.none = none_same
-links_same c left (tree.more part parts) =
-    both_same (loose_part c.scope.variables c.links left (front_part_name parts) part) (loose_parts c.scope.variables c.links (part_name part) parts)
-    (link_at c left (front_part_name parts) part) (links_of c (part_name part) parts)
-    (link_same c left (front_part_name parts) part) (links_same c (part_name part) parts)
+parts_same : (c : Construct) (left : Option (List ℕ)) (parts : Tree (RowOf AConstructPart))
+    → Same (both (loose_parts c.scope.variables c.links left parts) (each (part_breaches (held c)) parts)) (in_parts c left parts)
+parts_same c left tree.none = alike_same (both none none) none [] (λ b. ((none_before none b).1, (none_before none b).0)) none_same
+parts_same c left (tree.more part parts) =
+    let link : Breaches = loose_part c.scope.variables c.links left (front_part_name parts) part in
+    let links : Breaches = loose_parts c.scope.variables c.links (part_name part) parts in
+    let made : Breaches = part_breaches (held c) part in
+    let rest : Breaches = each (part_breaches (held c)) parts in
+    let in_rest : List Occurrence = in_parts c (part_name part) parts in
+    alike_same (both (both link links) (both made rest)) (both link (both made (both links rest)))
+    (link_at c left (front_part_name parts) part ++ (in_part c part ++ in_rest))
+    (then_alike (both (both link links) (both made rest)) (both (both link made) (both links rest)) (both link (both made (both links rest)))
+    (pairs link links made rest) (ungrouped link made (both links rest)))
+    (both_same link (both made (both links rest)) (link_at c left (front_part_name parts) part) (in_part c part ++ in_rest)
+    (link_same c left (front_part_name parts) part)
+    (both_same made (both links rest) (in_part c part) in_rest (part_same c part) (parts_same c (part_name part) parts)))
 
 -- an item with its links
 item_same : (c : Construct) (item : Tree AnItem)
@@ -204,19 +233,17 @@ item_same c (tree.ChainItem parts changes condition) =
     let changed : Breaches = each (change_breaches (held c)) changes in
     let asked : Breaches = each (formula_breaches (constructs.when_ (held c)) false takes.Condition) condition in
     let loose : Breaches = loose_parts c.scope.variables c.links None parts in
-    let in_made : List Occurrence = all_of (in_part c) parts in
     let in_changed : List Occurrence = all_of (in_change c) changes in
     let in_asked : List Occurrence = all_of (in_formula (when_ c) Elsewhere takes.Condition) condition in
-    alike_same (both (both made (both changed asked)) loose) (both loose (both made (both changed asked)))
-    (links_of c None parts ++ (in_made ++ (in_changed ++ in_asked))) (swapped (both made (both changed asked)) loose)
-    (both_same loose (both made (both changed asked)) (links_of c None parts) (in_made ++ (in_changed ++ in_asked))
-    (links_same c None parts)
-    (both_same made (both changed asked) in_made (in_changed ++ in_asked)
-    (each_same (part_breaches (held c)) (in_part c) (part_same c) parts)
+    alike_same (both (both made (both changed asked)) loose) (both (both loose made) (both changed asked))
+    (in_parts c None parts ++ (in_changed ++ in_asked))
+    (then_alike (both (both made (both changed asked)) loose) (both loose (both made (both changed asked))) (both (both loose made) (both changed asked))
+    (swapped (both made (both changed asked)) loose) (grouped loose made (both changed asked)))
+    (both_same (both loose made) (both changed asked) (in_parts c None parts) (in_changed ++ in_asked) (parts_same c None parts)
     (both_same changed asked in_changed in_asked
     (each_same (change_breaches (held c)) (in_change c) (change_same c) changes)
     (each_same (formula_breaches (constructs.when_ (held c)) false takes.Condition) (in_formula (when_ c) Elsewhere takes.Condition)
-    (formula_same (when_ c) Elsewhere takes.Condition) condition))))
+    (formula_same (when_ c) Elsewhere takes.Condition) condition)))
 
 pub items_same : (c : Construct) (items : Tree (RowOf AnItem))
     → Same (both (each (item_breaches c.scope.graphs (held c)) items) (each (loose_item c.scope.variables c.links) items)) (all_of (in_item c) items)

@@ -43,30 +43,29 @@ abbrev pub element_name : Construct → Form → Option Named → List Occurrenc
 element_name c kind None = []
 element_name c kind (Some x) = At x.token (Operand (takes.Like kind) (name_form (when_ c) x.name)) (when_scope c) ∷ []
 
--- what is copied
+-- the `=` of a named element, and what is copied
+abbrev pub copy_at : Construct → Use → Occurrence
+copy_at c u = At u.token (Copy u.name c.names.copies) c.scope
+
 abbrev pub copied : Construct → Form → Option Named → List Occurrence
 copied c kind None = []
 copied c kind (Some x) = named (given c) (takes.Like kind) x.name x.token
 
--- what is grouped by
-abbrev pub in_term : Construct → Tree AGroupTerm → List Occurrence
-in_term c (tree.GroupTerm x property) = named (given c) (term_takes property) x.name x.token
-
--- the word GROUP and the `=` of a named element
+-- the word GROUP of one, and what is grouped by
 abbrev pub group_at : Construct → Use → Occurrence
 group_at c u = At u.token (Group u.name c.names.groups) c.scope
 
-abbrev pub copy_at : Construct → Use → Occurrence
-copy_at c u = At u.token (Copy u.name c.names.copies) c.scope
+abbrev pub in_term : Construct → Tree AGroupTerm → List Occurrence
+in_term c (tree.GroupTerm x property) = named (given c) (term_takes property) x.name x.token
 
 -- a node or an edge of a chain
 abbrev pub in_element : Construct → Form → Role → Tree ANewElement → List Occurrence
 in_element c kind role (tree.NewElement token name copy group labels assigns) =
     element_name c kind name
-    ++ (copied c kind copy
-    ++ (all_of (in_term c) group
-    ++ (map (group_at c) (group_uses role name group)
     ++ (map (copy_at c) (copy_uses role name copy)
+    ++ (copied c kind copy
+    ++ (map (group_at c) (group_uses role name group)
+    ++ (all_of (in_term c) group
     ++ all_of (in_assign c) assigns))))
 
 -- the name of an edge besides
@@ -87,16 +86,6 @@ in_part c (tree.Projected token path) =
 in_part c (tree.NewStored token path labels assigns) =
     named (given c) takes.Walked path.name path.token ++ all_of (in_assign c) assigns
 
--- SET and REMOVE
-abbrev pub target : Construct → Named → Occurrence
-target c x = At x.token (Target x.name (name_form (given c) x.name) c.names.made c.names.stored) c.scope
-
-abbrev pub in_change : Construct → Tree AChange → List Occurrence
-in_change c (tree.SetProperty x assign) = target c x ∷ in_assign c assign
-in_change c (tree.AddLabel x label) = target c x ∷ []
-in_change c (tree.DropProperty x property) = target c x ∷ []
-in_change c (tree.DropLabel x label) = target c x ∷ []
-
 -- an edge at its `[`, and a path at its first `/`, between their neighbours
 abbrev pub link_at : Construct → (left right : Option (List ℕ)) → Tree AConstructPart → List Occurrence
 link_at c left right (tree.NewNode element) = []
@@ -107,14 +96,24 @@ link_at c left right (tree.Projected token path) =
 link_at c left right (tree.NewStored token path labels assigns) =
     At (token + 1) (PathLink (record { name = path.name; left = left; right = right; way = Forward }) c.links) c.scope ∷ []
 
--- those of the parts of a chain behind a part of a name
-abbrev pub links_of : Construct → (left : Option (List ℕ)) → Tree (RowOf AConstructPart) → List Occurrence
-links_of c left tree.none = []
-links_of c left (tree.more part parts) = link_at c left (front_part_name parts) part ++ links_of c (part_name part) parts
+-- the parts of a chain behind a part of a name
+abbrev pub in_parts : Construct → (left : Option (List ℕ)) → Tree (RowOf AConstructPart) → List Occurrence
+in_parts c left tree.none = []
+in_parts c left (tree.more part parts) =
+    link_at c left (front_part_name parts) part ++ (in_part c part ++ in_parts c (part_name part) parts)
+
+-- SET and REMOVE
+abbrev pub target : Construct → Named → Occurrence
+target c x = At x.token (Target x.name (name_form (given c) x.name) c.names.made c.names.stored) c.scope
+
+abbrev pub in_change : Construct → Tree AChange → List Occurrence
+in_change c (tree.SetProperty x assign) = target c x ∷ in_assign c assign
+in_change c (tree.AddLabel x label) = target c x ∷ []
+in_change c (tree.DropProperty x property) = target c x ∷ []
+in_change c (tree.DropLabel x label) = target c x ∷ []
 
 -- an item: all of a graph; a chain with its changes and its WHEN
 abbrev pub in_item : Construct → Tree AnItem → List Occurrence
 in_item c (tree.GraphItem graph) = graph_name c.scope graph ∷ []
 in_item c (tree.ChainItem parts changes condition) =
-    links_of c None parts
-    ++ (all_of (in_part c) parts ++ (all_of (in_change c) changes ++ all_of (in_formula (when_ c) Elsewhere takes.Condition) condition))
+    in_parts c None parts ++ (all_of (in_change c) changes ++ all_of (in_formula (when_ c) Elsewhere takes.Condition) condition)
