@@ -1,4 +1,5 @@
 pub mod ConstructLaws
+pub mod ExampleLaws
 pub mod ExpressionLaws
 pub mod PatternLaws
 pub mod Same

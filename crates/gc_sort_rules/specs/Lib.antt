@@ -1,6 +1,7 @@
 pub mod AggregateHere
 pub mod AllNotProjected
 pub mod ConstructPlaces
+pub mod Examples
 pub mod ExistsForm
 pub mod ExpressionPlaces
 pub mod KOutOfRange

@@ -2,12 +2,14 @@ ghost use Rattle.std.specs.Prelude.{◌↔◌, List, Option, Result, ℕ};
 ghost use Rattle.gc_ast.specs.QueryViews.{file_trees};
 ghost use Rattle.gc_ast.specs.Trees.{AStatement, RowOf, Tree, row};
 ghost use Rattle.gc_ast.specs.declared.file.File.{File};
+ghost use Rattle.gc_sort_rules.specs.Examples.{no_breach, session, smallest, smallest_breach};
 ghost use Rattle.gc_sort_rules.specs.Rules.{Breaks};
-ghost use Rattle.gc_sort_rules.specs.Verdicts.{IsFirstBreach, IsVerdict};
+ghost use Rattle.gc_sort_rules.specs.Verdicts.{BreaksFirst, IsFirstBreach, IsVerdict, KeepsAll};
 ghost use Rattle.gc_sorts.specs.Breaches.{IsAmong};
 ghost use Rattle.gc_sorts.specs.Checks.{IsChecked};
 ghost use Rattle.gc_sorts.specs.SortRules.{file_breaches, first_breach};
 ghost use Rattle.gc_sorts.specs.declared.breach.Breach.{Breach};
+ghost use Rattle.gc_sorts.specs.declared.breach.SortRule.{SortRule};
 ghost use Rattle.gc_sorts.specs.declared.checked.Checked.{Checked};
 ghost use Rattle.gc_sorts.specs.declared.refusal.SortRefusal.{SortRefusal};
 
@@ -31,4 +33,13 @@ pub fn the_check_is_by_the_fifteen_rules()
 {
     breaches_are_those_of_the_fifteen_rules();
     the_first_breach_is_the_first();
+}
+
+/// Each rule is the first that the smallest file for it breaks, at the token that is named there, in a session with one
+/// graph `g`; and `CONSTRUCT (n) MATCH (n)` keeps all fifteen.
+pub fn each_rule_is_broken_by_its_example()
+    ensures broken { (rule : SortRule) → BreaksFirst session (smallest rule) (smallest_breach rule) }
+    ensures kept { KeepsAll session no_breach }
+{
+    the_check_is_by_the_fifteen_rules();
 }

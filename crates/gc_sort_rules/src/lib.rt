@@ -4,4 +4,7 @@
 
 mod laws;
 
-pub use laws::{breaches_are_those_of_the_fifteen_rules, the_check_is_by_the_fifteen_rules};
+pub use laws::{
+    breaches_are_those_of_the_fifteen_rules, each_rule_is_broken_by_its_example,
+    the_check_is_by_the_fifteen_rules,
+};
