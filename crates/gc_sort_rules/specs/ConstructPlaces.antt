@@ -29,7 +29,7 @@ given c = record { scope = c.scope; stored = []; queries = [] }
 
 -- and a WHEN where those of the CONSTRUCT are too
 abbrev pub when_scope : Construct → Scope
-when_scope c = record { graphs = c.scope.graphs; views = c.scope.views; variables = c.scope.variables ++ c.names.made }
+when_scope c = record (c.scope) { variables = c.scope.variables ++ c.names.made }
 
 abbrev pub when_ : Construct → Setting
 when_ c = record { scope = when_scope c; stored = c.names.stored; queries = [] }
@@ -38,7 +38,7 @@ when_ c = record { scope = when_scope c; stored = c.names.stored; queries = [] }
 abbrev pub in_assign : Construct → Tree AnAssign → List Occurrence
 in_assign c (tree.Assign token key value) = in_formula (given c) Assigned takes.Value value
 
--- the name of a node or an edge, which has to be one in the MATCH and in the CONSTRUCT
+-- the name of a node or an edge, by what its first place has it for, in the MATCH or else in the CONSTRUCT
 abbrev pub element_name : Construct → Form → Option Named → List Occurrence
 element_name c kind None = []
 element_name c kind (Some x) = At x.token (Operand (takes.Like kind) (name_form (when_ c) x.name)) (when_scope c) ∷ []

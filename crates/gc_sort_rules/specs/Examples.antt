@@ -1,6 +1,5 @@
 -- The smallest query files that break each rule, as trees.
 use Rattle.std.specs.Prelude.{ℕ, zero, suc, ◌+◌, pos, List, [], ◌∷◌, Option, Some, None, codes}
-use Rattle.gc_base.specs.declared.place.Direction.{Direction}
 use Rattle.gc_base.specs.declared.place.Direction.TheVariants.{Forward}
 use Rattle.gc_regx.specs.Trees as regex
 use Rattle.gc_expr.specs.Trees as expr

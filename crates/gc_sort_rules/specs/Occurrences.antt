@@ -1,4 +1,5 @@
--- The places of a query file of which a sort rule may speak, in the order of its tree.
+-- The places of a query file of which a sort rule may speak. They come in text order, but that of a MATCH and its OPTIONAL
+-- blocks the variables come first, and that the patterns of a block are numbered behind what stands in them.
 use Rattle.std.specs.Prelude.{ℕ, List, [], ◌∷◌, ◌++◌}
 use Rattle.gc_ast.specs.Trees as tree
 use Rattle.gc_ast.specs.Trees.{Tree, Kind, Named, RowOf, AStatement, ABlock, AnOptional, AnItem, APattern, AFormula}
@@ -14,13 +15,13 @@ use Rattle.gc_sort_rules.specs.ConstructPlaces.{Construct, in_item}
 
 -- the same scope with one more graph, with one more view, and with other variables
 abbrev pub with_graph : Scope → List ℕ → Scope
-with_graph s name = record { graphs = s.graphs ++ name ∷ []; views = s.views; variables = s.variables }
+with_graph s name = record s { graphs = s.graphs ++ name ∷ [] }
 
 abbrev pub with_view : Scope → List ℕ → Scope
-with_view s name = record { graphs = s.graphs; views = s.views ++ name ∷ []; variables = s.variables }
+with_view s name = record s { views = s.views ++ name ∷ [] }
 
 abbrev pub with_variables : Scope → List Use → Scope
-with_variables s variables = record { graphs = s.graphs; views = s.views; variables = variables }
+with_variables s variables = record s { variables = variables }
 
 -- the scope behind a tree: a statement and a head may give a name to a graph or a view
 abbrev pub behind : {k : Kind} → Scope → Tree k → Scope
@@ -34,7 +35,7 @@ abbrev pub behind_all : {k : Kind} → Scope → Tree (RowOf k) → Scope
 behind_all s tree.none = s
 behind_all s (tree.more t ts) = behind_all (behind s t) ts
 
--- where the conditions of a view stand, and the WHERE of a block
+-- where the WHERE and the COST of a PATH stand
 abbrev pub in_scope : Scope → Setting
 in_scope s = record { scope = s; stored = []; queries = [] }
 
