@@ -27,7 +27,7 @@ pub(crate) fn table_of<L: Ledger>(
     requires there { AreOnGraphs graphs.now segments.now }
     ensures { IfOk result (IsTableOfBlock (setting graphs.now segments.now (block_tree block.now) [])) }
 {
-    let plan = plan(alloc, block)?;
+    let plan = plan(alloc, block, graphs)?;
     let given = Row::empty(alloc);
     run(alloc, &plan, block, graphs, segments, &given, steps)
 }
