@@ -81,9 +81,12 @@ pub record Request : Type 0 where
   pub query : PlacedFile
   pub style : Style
 
--- a run writes the graphs as their texts
+-- a session over graphs, of which each that it prints is written as its text
+abbrev pub session_over : List PropertyGraph → PlacedFile → Request
+session_over graphs query = record { graphs = graphs; query = query; style = Text }
+
 abbrev pub request : List PropertyGraph → PlacedFile → Result Request Stop
-request graphs query = Ok (record { graphs = graphs; query = query; style = Text })
+request graphs query = Ok (session_over graphs query)
 
 -- the first identity above all of some graphs, or 0 where they have no element
 abbrev pub free_above : List PropertyGraph → ℕ

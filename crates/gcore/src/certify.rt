@@ -6,9 +6,8 @@ ghost use Rattle.gc_query.specs.Built.{AreBuilt};
 ghost use Rattle.gcore.specs.Certifications.{IsCertifiedOver};
 ghost use Rattle.gcore.specs.EndTexts.{HoldsAtEnd, WritesAtEnd};
 ghost use Rattle.gcore.specs.Endings.{Change};
-ghost use Rattle.gcore.specs.Outcomes.{Request, free_above};
+ghost use Rattle.gcore.specs.Outcomes.{Request, free_above, session_over};
 ghost use Rattle.gcore.specs.QueryFiles.{placed};
-ghost use Rattle.gcore.specs.declared.style.Style.TheVariants.{Text};
 
 use crate::logging::log_session;
 use crate::session::write_text;
@@ -34,8 +33,8 @@ pub fn certify_session<S: Sink, L: Ledger>(
 ) -> Result<(), Stop>
     requires built { AreBuilt (file_of checked.now) }
     requires begins { catalog.old.next ≡ free_above catalog.old.graphs }
-    requires room { HoldsAtEnd (S.room out.old) (IsCertifiedOver catalog.old.names (record { graphs = catalog.old.graphs; query = placed checked.now; style = Text })) }
-    ensures { let r = record { graphs = catalog.old.graphs; query = placed checked.now; style = Text } in WritesAtEnd (IsCertifiedOver catalog.old.names r) r
+    requires room { HoldsAtEnd (S.room out.old) (IsCertifiedOver catalog.old.names (session_over catalog.old.graphs (placed checked.now))) }
+    ensures { let r : Request = session_over catalog.old.graphs (placed checked.now) in WritesAtEnd (IsCertifiedOver catalog.old.names r) r
         (record { faults_before = S.faults out.old; faults_after = S.faults out.new; taken_before = S.taken out.old; taken_after = S.taken out.new }) result }
 {
     let log = log_session(alloc, checked, catalog, Wants::Searches, steps)?;

@@ -5,9 +5,8 @@ ghost use Rattle.gc_query.specs.Built.{AreBuilt};
 ghost use Rattle.gcore.specs.Endings.{Change, WritesText};
 ghost use Rattle.gcore.specs.EndTexts.{HoldsAtEnd, WritesAtEnd};
 ghost use Rattle.gcore.specs.Explanations.{IsExplainedOver, all_lines};
-ghost use Rattle.gcore.specs.Outcomes.{Request, free_above};
+ghost use Rattle.gcore.specs.Outcomes.{Request, free_above, session_over};
 ghost use Rattle.gcore.specs.QueryFiles.{placed};
-ghost use Rattle.gcore.specs.declared.style.Style.TheVariants.{Text};
 
 use crate::logging::log_session;
 use crate::session::write_text;
@@ -31,8 +30,8 @@ pub fn explain_session<S: Sink, L: Ledger>(
 ) -> Result<(), Stop>
     requires built { AreBuilt (file_of checked.now) }
     requires begins { catalog.old.next ≡ free_above catalog.old.graphs }
-    requires room { HoldsAtEnd (S.room out.old) (IsExplainedOver catalog.old.names (record { graphs = catalog.old.graphs; query = placed checked.now; style = Text })) }
-    ensures { let r = record { graphs = catalog.old.graphs; query = placed checked.now; style = Text } in WritesAtEnd (IsExplainedOver catalog.old.names r) r
+    requires room { HoldsAtEnd (S.room out.old) (IsExplainedOver catalog.old.names (session_over catalog.old.graphs (placed checked.now))) }
+    ensures { let r : Request = session_over catalog.old.graphs (placed checked.now) in WritesAtEnd (IsExplainedOver catalog.old.names r) r
         (record { faults_before = S.faults out.old; faults_after = S.faults out.new; taken_before = S.taken out.old; taken_after = S.taken out.new }) result }
 {
     let log = log_session(alloc, checked, catalog, Wants::Plans, steps)?;

@@ -59,7 +59,8 @@ pub fn a_query_file_that_is_read_is_built()
 /// back: each graph has at most 1,000,000 elements, each expression has at most 1,024 states and parentheses at most 64
 /// deep, and all numbers are in range.
 pub fn what_is_certified_is_accepted()
-    ensures { (r : Request) (text : List ℕ) (c : IsCertified r text) → AllByRecursion IsWritable (map told c.searches) → IsOutcome text (Ok (length c.searches)) }
+    ensures { (r : Request) (text : List ℕ) (c : IsCertified r text) → AllByRecursion IsWritable (map told c.searches)
+        → IsOutcome text (Ok (length c.searches)) }
 {
     written_certificates_read_back();
 }

@@ -13,7 +13,7 @@ pub returns-in_err-log : goal.returns-in_err-log
 returns-in_err-log g c =
     let r : Request = record { graphs = c.args.catalog.now.graphs; query = placed c.args.checked.now; style = Text } in
     let stop = c.in_err-log.field-0.0 in
-    session_stops r (IsCertifiedOver c.args.catalog.now.names r) _ c.from_residual-in_err-log.result stop c.from_residual-in_err-log.ensures.0 c.from_residual-in_err-log.ensures.1
+    session_stops r (IsCertifiedOver c.args.catalog.now.names r) _ c.from_residual.result stop c.from_residual.ensures.0 c.from_residual.ensures.1
     (stopped r c.args.catalog.now.names Searches (IsCertifiedOver c.args.catalog.now.names r) _ refl stop c.in_err-log.ensures)
 
 pub write_text-requires : goal.write_text-requires
