@@ -11,7 +11,7 @@ use Rattle.gc_prod.specs.declared.moves.Pair.{Pair}
 use Rattle.gc_prod.specs.Leading.{pair, target_of, steps_of}
 use Rattle.gc_prod.specs.Products.{Setting, moves}
 use Rattle.gc_search.specs.Arrivals.{FoundWalk, edges_along, entry_of, same_pair, arrivals_at, settled_at, passage, passages, stays_at, extended, extensions, open_moves, TakesLeast, IsSeen, IsNew}
-use Rattle.gc_search.specs.Entries.{Entry, entry, AtMostAt, extend}
+use Rattle.gc_search.specs.Entries.{Entry, entry, AtMost, AtMostAt, extend}
 use Rattle.gc_search.specs.Passages.{Has, Passage, IsOnward, Reach, IsFirstK}
 use Rattle.gc_search.proofs.Order.{at_most_here, at_most_at_trans, at_most_at_extend}
 use Rattle.gc_search.proofs.Settle.{Has_front, Inv, IsDue, inv_start, inv_end, inv_full, inv_same, seen_covered, full_covered, inv_drop, inv_settle}
@@ -45,6 +45,11 @@ settled_here cs c = settled_at-append cs (c ∷ []) c.at ∙ ap (λ b. settled_a
 one_at : (b : Bool) (c : FoundWalk) (q : Pair) → same_pair c.at q ≡ b → (settled_at (c ∷ []) q ≡ []) ⊎ (c.at ≡ q)
 one_at true c q e = inr (same_is c.at q e)
 one_at false c q e = inl (ap (λ b. map entry_of (cond b (c ∷ []) [])) e)
+
+only_at : (b : Bool) (c : FoundWalk) (q : Pair) (y : Entry) → same_pair c.at q ≡ b → Has (map entry_of (cond b (c ∷ []) [])) y → (c.at ≡ q) × (entry_of c ≡ y)
+only_at true c q y e (inl d) = (same_is c.at q e, d)
+only_at true c q y e (inr h) = elim h [ ]
+only_at false c q y e h = elim h [ ]
 
 pub settled_elsewhere : (cs : List FoundWalk) (c : FoundWalk) (q : Pair) → (settled_at (cs ++ c ∷ []) q ≡ settled_at cs q) ⊎ (c.at ≡ q)
 settled_elsewhere cs c q = elim (one_at (same_pair c.at q) c q refl) [
@@ -156,41 +161,49 @@ module _ (setting : Setting) (source : ℕ) (k : ℕ) where
     abbrev all_moves : List Move
     all_moves = moves setting c.at.node c.at.state
 
+    abbrev after : List FoundWalk
+    after = settled ++ c ∷ []
+
     abbrev fresh : List FoundWalk
-    fresh = extensions setting c (open_moves settled k all_moves)
+    fresh = extensions setting c (open_moves after k all_moves)
 
     module _ (costs : (p : Pair) (m : Passage Pair) → Has (passages setting p) m → IsOnward node_of p m) where
       -- an extension is pending, or its pair has k walks that come before it
-      onward_by : (m : Move) → Has all_moves m → IsDue Pair (passages setting) (pair source 0) k node_of (settled_at settled) (IsPending (rest ++ fresh)) (target_of m) (extend (entry_of c) m.cost (edges_along (steps_of setting m)))
+      onward_by : (m : Move) → Has all_moves m → IsDue Pair (passages setting) (pair source 0) k node_of (settled_at after) (IsPending (rest ++ fresh)) (target_of m) (extend (entry_of c) m.cost (edges_along (steps_of setting m)))
       onward_by m h =
           let x = passage setting m in
           let q = target_of m in
           let e = extend (entry_of c) x.cost x.edges in
           let a = extended setting c m in
-          elim (filter_or (λ n. nat_lt (length (arrivals_at settled (target_of n))) k) all_moves m h) [
-            | inr g ↦ inr (a, Has_later rest fresh a (Has_map (extended setting c) (open_moves settled k all_moves) m g), refl, entry_extended setting c m)
+          elim (filter_or (λ n. nat_lt (length (arrivals_at after (target_of n))) k) all_moves m h) [
+            | inr g ↦ inr (a, Has_later rest fresh a (Has_map (extended setting c) (open_moves after k all_moves) m g), refl, entry_extended setting c m)
             | inl full ↦
-                let many : k ≤ length (arrivals_at settled q) = not_less (length (arrivals_at settled q)) k full in
+                let many : k ≤ length (arrivals_at after q) = not_less (length (arrivals_at after q)) k full in
                 let on = costs c.at x (Has_map (passage setting) all_moves m h) in
                 let further = at_most_at_extend c.at.node q.node (entry_of c) x.cost x.edges on.0 on.1 in
-                inl (full_covered Pair (passages setting) (pair source 0) k node_of (settled_at settled q) e
-                (λ y g. at_most_here q.node y e (at_most_at_trans q.node c.at.node q.node y (entry_of c) e (s.ordered q c.at y (entry_of c) g taken) further))
-                (omega (arith, many, length-map (arrivals_at settled q) entry_of)))
+                inl (full_covered Pair (passages setting) (pair source 0) k node_of (settled_at after q) e
+                (λ y g. elim (Has_cases (settled_at settled q) (settled_at (c ∷ []) q) y (subst (λ l. Has l y) (settled_at-append settled (c ∷ []) q) g)) [
+                  | inl h ↦ at_most_here q.node y e (at_most_at_trans q.node c.at.node q.node y (entry_of c) e (s.ordered q c.at y (entry_of c) h taken) further)
+                  | inr h ↦
+                      let one = only_at (same_pair c.at q) c q y refl h in
+                      subst (λ v. AtMost v e) one.1 (at_most_here q.node (entry_of c) e (subst (λ (p : Pair). AtMostAt p.node (entry_of c) q.node e) one.0 further))
+                ])
+                (omega (arith, many, length-map (arrivals_at after q) entry_of)))
           ]
 
-      onward : (m : Passage Pair) → Has (passages setting c.at) m → IsDue Pair (passages setting) (pair source 0) k node_of (settled_at settled) (IsPending (rest ++ fresh)) m.to (extend (entry_of c) m.cost m.edges)
+      onward : (m : Passage Pair) → Has (passages setting c.at) m → IsDue Pair (passages setting) (pair source 0) k node_of (settled_at after) (IsPending (rest ++ fresh)) m.to (extend (entry_of c) m.cost m.edges)
       onward m h =
           let from = Has_from_map (passage setting) all_moves m h in
-          subst (λ (v : Passage Pair). IsDue Pair (passages setting) (pair source 0) k node_of (settled_at settled) (IsPending (rest ++ fresh)) v.to (extend (entry_of c) v.cost v.edges)) from.2 (onward_by from.0 from.1)
+          subst (λ (v : Passage Pair). IsDue Pair (passages setting) (pair source 0) k node_of (settled_at after) (IsPending (rest ++ fresh)) v.to (extend (entry_of c) v.cost v.edges)) from.2 (onward_by from.0 from.1)
 
       came : (p : Pair) (x : Entry) → IsPending (rest ++ fresh) p x → IsPending cs p x ⊎ ((m : Passage Pair) × Has (passages setting c.at) m × (m.to ≡ p) × (extend (entry_of c) m.cost m.edges ≡ x))
       came p x h = elim (Has_cases rest fresh h.0 h.1) [
         | inl g ↦ inl (fewer p x (h.0, g, h.2, h.3))
         | inr g ↦
-            let from = Has_from_map (extended setting c) (open_moves settled k all_moves) h.0 g in
+            let from = Has_from_map (extended setting c) (open_moves after k all_moves) h.0 g in
             inr (
               passage setting from.0,
-              Has_map (passage setting) all_moves from.0 (Has_filtered (λ n. nat_lt (length (arrivals_at settled (target_of n))) k) all_moves from.0 from.1),
+              Has_map (passage setting) all_moves from.0 (Has_filtered (λ n. nat_lt (length (arrivals_at after (target_of n))) k) all_moves from.0 from.1),
               ap (λ (v : FoundWalk). v.at) from.2 ∙ h.2,
               sym (entry_extended setting c from.0) ∙ (ap entry_of from.2 ∙ h.3),
             )

@@ -1,5 +1,5 @@
 -- Numbers of pairs, and the places of the walks that arrive at them.
-use Rattle.std.proofs.Common.{◌≡◌, ◌≢◌, ℕ, zero, suc, ◌+◌, ◌*◌, ◌<◌, ◌≤◌, ◌==◌, Bool, true, false, cond, List, [], ◌∷◌, ◌++◌, length, get_or, set, replicate, Option, Some, None, nat_lt, inl, inr, ◌⊎◌, refl, sym, ap, ◌∙◌, arith, length-set, get_or-set_other, get_or-set_same}
+use Rattle.std.proofs.Common.{◌≡◌, ◌≢◌, ℕ, zero, suc, ◌+◌, ◌*◌, ◌<◌, ◌≤◌, ◌==◌, Bool, true, false, cond, List, [], ◌∷◌, ◌++◌, length, get_or, set, replicate, Option, Some, None, nat_lt, inl, inr, ◌⊎◌, refl, sym, ap, subst, ◌∙◌, arith, length-set, get_or-set_other, get_or-set_same}
 use Rattle.std.specs.List.{AllByRecursion, slice_get, list_any}
 use Rattle.std.specs.Option.{option_map}
 use Rattle.std.specs.declared.cmp.Ordering.TheVariants.{Less}
@@ -275,3 +275,14 @@ none_past xs i h = slice_get_past xs i (not_below i (length xs) h)
 
 pub some_there : (xs : List ℕ) (i x : ℕ) → true ≡ nat_lt i (length xs) → x ≡ get_or xs i x → slice_get xs i ≡ Some x
 some_there xs i x h e = slice_get_read xs (length xs) i x refl (lt_is i (length xs) (sym h)) e
+
+pub read_at : (walks some : List FoundWalk) (j n : ℕ) → StandsAs walks some 0 j n → (x : FoundWalk) → slice_get walks n ≡ Some x → slice_get some j ≡ Some x
+read_at walks some j n s x h = let e : n ≡ s.behind = omega (arith, s.is) in sym s.there ∙ subst (λ m. slice_get walks m ≡ Some x) e h
+
+pub read_same : (walks some : List FoundWalk) (j n : ℕ) → StandsAs walks some 0 j n → slice_get walks n ≡ slice_get some j
+read_same walks some j n s = let e : n ≡ s.behind = omega (arith, s.is) in ap (slice_get walks) e ∙ s.there
+
+pub set_same : {X : Type 0} (xs : List X) (n : ℕ) (x : X) → n < length xs → x ≡ get_or xs n x → set xs n x ≡ xs
+set_same [] n x h e = absurd (omega (arith, h))
+set_same (y ∷ xs) zero x h e = ap (λ v. v ∷ xs) e
+set_same (y ∷ xs) (suc n) x h e = ap (λ v. y ∷ v) (set_same xs n x (omega (arith, h)) e)

@@ -159,7 +159,7 @@ module _ (P : Type 0) (passages : P → List (Passage P)) (source : P) (k : ℕ)
     pub others : (p : P) → (at' p ≡ at p) ⊎ (q ≡ p)
     pub kept : (p : P) (x : Entry) → pending p x → pending' p x ⊎ ((q ≡ p) × (e ≡ x))
     pub from : (p : P) (x : Entry) → pending' p x → pending p x ⊎ ((m : Passage P) × Has (passages q) m × (m.to ≡ p) × (extend e m.cost m.edges ≡ x))
-    pub onward : (m : Passage P) → Has (passages q) m → IsDue at pending' m.to (extend e m.cost m.edges)
+    pub onward : (m : Passage P) → Has (passages q) m → IsDue at' pending' m.to (extend e m.cost m.edges)
 
   pub inv_settle : ((p : P) (m : Passage P) → Has (passages p) m → IsOnward number p m)
       → (at at' : P → List Entry) (pending pending' : P → Entry → Type 0) (q : P) (e : Entry)
@@ -237,10 +237,7 @@ module _ (P : Type 0) (passages : P → List (Passage P)) (source : P) (k : ℕ)
         begun = due source (entry 0 []) inv.begun;
         closed = λ p x h m g. elim (was p x h) [
           | inl i ↦ due m.to (extend x m.cost m.edges) (inv.closed p x i m g)
-          | inr t ↦ subst (λ v. IsDue at' pending' m.to (extend v m.cost m.edges)) t.1 (elim (s.onward m (subst (λ v. Has (passages v) m) (sym t.0) g)) [
-            | inl c ↦ inl (covered m.to (extend e m.cost m.edges) c)
-            | inr h ↦ inr h
-          ])
+          | inr t ↦ subst (λ v. IsDue at' pending' m.to (extend v m.cost m.edges)) t.1 (s.onward m (subst (λ v. Has (passages v) m) (sym t.0) g))
         ];
       }
 

@@ -32,7 +32,7 @@ module _ (setting : Setting) (source k : ℕ) where
     pub due : AllByRecursion (IsFollowed setting source) pending
 
   -- the order of those that are pending means nothing
-  permuted : (settled xs ys : List FoundWalk) → IsPermutation xs ys → IsOn settled xs → IsOn settled ys
+  pub permuted : (settled xs ys : List FoundWalk) → IsPermutation xs ys → IsOn settled xs → IsOn settled ys
   permuted settled xs ys p on =
       let back : (x : FoundWalk) → Has ys x → Has xs x = λ x h. has_permuted ys xs x (IsPermutation-sym xs ys p) h in
       record {
@@ -99,11 +99,11 @@ module _ (setting : Setting) (source k : ℕ) where
             (map entry_of l.0) (entry_of l.1) (ap (map entry_of) is ∙ map-append entry_of l.0 (l.1 ∷ [])) (new l.0 l.1 is) seen.0 seen.1 seen.2
 
     pub turn_settles : ((q : Pair) (m : Passage Pair) → Has (passages setting q) m → IsOnward node_of q m) → IsNew settled k c → length settled < 2 ^ 63
-        → (after : List FoundWalk) → IsPermutation (rest ++ extensions setting c (open_moves settled k (moves setting c.at.node c.at.state))) after
-        → AllByRecursion (λ a. a.cost ≤ c.cost + 2 ^ 64) (extensions setting c (open_moves settled k (moves setting c.at.node c.at.state)))
+        → (after : List FoundWalk) → IsPermutation (rest ++ extensions setting c (open_moves (settled ++ c ∷ []) k (moves setting c.at.node c.at.state))) after
+        → AllByRecursion (λ a. a.cost ≤ c.cost + 2 ^ 64) (extensions setting c (open_moves (settled ++ c ∷ []) k (moves setting c.at.node c.at.state)))
         → IsOn (settled ++ c ∷ []) after
     turn_settles costs new few after grown small =
-        let next = extensions setting c (open_moves settled k (moves setting c.at.node c.at.state)) in
+        let next = extensions setting c (open_moves (settled ++ c ∷ []) k (moves setting c.at.node c.at.state)) in
         let most = length (settled ++ c ∷ []) * 2 ^ 64 in
         let least : length settled * 2 ^ 64 ≤ most = omega (arith, length-append settled (c ∷ [])) in
         let room_for : c.cost + 2 ^ 64 ≤ most = omega (arith, length-append settled (c ∷ []), turn_small) in
@@ -115,5 +115,5 @@ module _ (setting : Setting) (source k : ℕ) where
           small = AllByRecursion-append (λ (a : FoundWalk). a.cost ≤ most) rest next (costs_more (length settled * 2 ^ 64) most rest least all) (costs_more (c.cost + 2 ^ 64) most next room_for small);
           low = AllByRecursion-append (λ (a : FoundWalk). a.cost < 2 ^ 127) settled (c ∷ []) on.low (low, tt);
           found = AllByRecursion-append (IsFollowed setting source) settled (c ∷ []) on.found (is_followed, tt);
-          due = AllByRecursion-append (IsFollowed setting source) rest next (all_rest (IsFollowed setting source) cs rest c t on.due) (followed_further settled c is_followed);
+          due = AllByRecursion-append (IsFollowed setting source) rest next (all_rest (IsFollowed setting source) cs rest c t on.due) (followed_further (settled ++ c ∷ []) c is_followed);
         })

@@ -1,5 +1,5 @@
 -- Walks from the source that are found, each with the run by which it is.
-use Rattle.std.specs.Prelude.{length, suc, ◌≡◌, ◌⊎◌, ℕ, ◌+◌, ◌<◌, ◌≤◌, nat_lt, Bool, true, false, ◌&&◌, ◌==◌, List, [], ◌∷◌, ◌++◌, map, Option, Some, None}
+use Rattle.std.specs.Prelude.{length, suc, slice_get, ◌≡◌, ◌⊎◌, ℕ, ◌+◌, ◌<◌, ◌≤◌, ◌^◌, nat_lt, Bool, true, false, ◌&&◌, ◌==◌, List, [], ◌∷◌, ◌++◌, map, Option, Some, None}
 use Rattle.std.specs.List.{filter}
 use Rattle.gc_base.specs.declared.walk.Step.{Step}
 use Rattle.gc_prod.specs.declared.moves.Move.{Move}
@@ -106,3 +106,7 @@ IsAsked (Some target) q = target ≡ q
 abbrev pub IsDone : Option Pair → List FoundWalk → ℕ → Type 0
 IsDone None settled k = ⊥
 IsDone (Some target) settled k = k ≤ length (settled_at settled target)
+
+-- the walk at a place costs so little that it can be extended
+abbrev pub IsLowAt : List FoundWalk → ℕ → Type 0
+IsLowAt walks place = (a : FoundWalk) → slice_get walks place ≡ Some a → a.cost + 2 ^ 64 ≤ 2 ^ 128

@@ -1,26 +1,20 @@
--- The order in which walks are taken, and the same turned around, since a heap hands out the greatest.
-use Rattle.std.specs.Prelude.{length}
+-- The order in which walks are taken from a heap. It hands out the greatest, so their order is turned around.
 use Rattle.std.specs.declared.cmp.Ordering.{Ordering}
 use Rattle.std.specs.Ordering.{nat_cmp, ordering_then}
 use Rattle.std.specs.Cmp.{IsTotalOrder, nat_cmp_total, on_total, then_total, back_total}
-use Rattle.std.specs.Cmp.Lexicographic.{slice_cmp, nat_list_cmp_total}
-use Rattle.gc_search.specs.Arrivals.{FoundWalk, edges_along}
+use Rattle.gc_search.specs.Links.{Link}
 
--- by cost, then by the number of edges, then by the node where it arrives, then by the edges one after another
-abbrev pub found_order : FoundWalk → FoundWalk → Ordering
-found_order a b =
-    ordering_then (nat_cmp a.cost b.cost)
-    (ordering_then (nat_cmp (length a.steps) (length b.steps))
-    (ordering_then (nat_cmp a.at.node b.at.node) (slice_cmp nat_cmp (edges_along a.steps) (edges_along b.steps))))
+-- by cost, then by the number of edges, then by the node where it arrives
+abbrev pub key_order : Link → Link → Ordering
+key_order a b = ordering_then (nat_cmp a.cost b.cost) (ordering_then (nat_cmp a.edges b.edges) (nat_cmp a.at.node b.at.node))
 
-abbrev pub heap_order : FoundWalk → FoundWalk → Ordering
-heap_order a b = found_order b a
+abbrev pub heap_order : Link → Link → Ordering
+heap_order a b = key_order b a
 
-found_order_total : IsTotalOrder found_order
-found_order_total =
-    then_total (on_total (λ (a : FoundWalk). a.cost) nat_cmp_total)
-    (then_total (on_total (λ (a : FoundWalk). length a.steps) nat_cmp_total)
-    (then_total (on_total (λ (a : FoundWalk). a.at.node) nat_cmp_total) (on_total (λ (a : FoundWalk). edges_along a.steps) nat_list_cmp_total)))
+key_order_total : IsTotalOrder key_order
+key_order_total =
+    then_total (on_total (λ (a : Link). a.cost) nat_cmp_total)
+    (then_total (on_total (λ (a : Link). a.edges) nat_cmp_total) (on_total (λ (a : Link). a.at.node) nat_cmp_total))
 
 pub heap_order_total : IsTotalOrder heap_order
-heap_order_total = back_total found_order_total
+heap_order_total = back_total key_order_total

@@ -4,6 +4,8 @@ pub mod Entries
 pub mod Finding
 pub mod FirstWalks
 pub mod HeapOrder
+pub mod Links
 pub mod Passages
 pub mod Places
+pub mod Tails
 pub mod Waiting

@@ -1,37 +1,93 @@
 -- Walks that are pending: some in front, which come before all others, and the others in a heap.
-use Rattle.std.specs.Prelude.{◌≡◌, List, ◌++◌}
-use Rattle.std.specs.BinaryHeap.{IsHeap}
-use Rattle.gc_search.specs.Arrivals.{FoundWalk, entry_of, TakesLeast}
+use Rattle.std.specs.Prelude.{◌≡◌, ◌⊎◌, ℕ, ◌+◌, ◌<◌, ◌≤◌, ◌^◌, List, [], ◌∷◌, ◌++◌, map}
+use Rattle.std.specs.List.{AllByRecursion}
+use Rattle.std.specs.List.Sorted.{IsPermutation}
+use Rattle.gc_prod.specs.declared.moves.Move.{Move}
+use Rattle.gc_search.specs.Arrivals.{FoundWalk, entry_of, extensions, open_moves, TakesLeast}
 use Rattle.gc_search.specs.Entries.{AtMostAt}
-use Rattle.gc_search.specs.HeapOrder.{heap_order}
+use Rattle.gc_search.specs.Links.{Link, Walks, walk_of, IsTold}
 use Rattle.gc_search.specs.Passages.{Has}
 
 pub record Queue : Type 0 where
-  pub front : List FoundWalk
-  pub later : List FoundWalk
+  pub front : List Link
+  pub later : List Link
 
-abbrev pub waiting : Queue → List FoundWalk
-waiting q = q.front ++ q.later
+abbrev pub links_of : Queue → List Link
+links_of q = q.front ++ q.later
+
+-- the walk that is told beside a tree, and those that are
+abbrev pub told_by : Walks → Link → FoundWalk
+told_by tree l = walk_of tree.setting tree.walks l
+
+abbrev pub walks_by : Walks → List Link → List FoundWalk
+walks_by tree links = map (told_by tree) links
+
+abbrev pub waiting : Walks → Queue → List FoundWalk
+waiting tree q = walks_by tree (links_of q)
+
+-- alike in cost, number of edges and node; or sooner by these
+abbrev pub IsAlike : Link → Link → Type 0
+IsAlike a b = (a.cost ≡ b.cost) × (a.edges ≡ b.edges) × (a.at.node ≡ b.at.node)
+
+abbrev pub IsSooner : Link → Link → Type 0
+IsSooner a b = (a.cost < b.cost) ⊎ ((a.cost ≡ b.cost) × ((a.edges < b.edges) ⊎ ((a.edges ≡ b.edges) × (a.at.node < b.at.node))))
+
+-- the first of a heap, if it has one, is alike to a walk
+abbrev pub HasAlike : Link → List Link → Type 0
+HasAlike a [] = Unit {0}
+HasAlike a (x ∷ later) = IsAlike a x
+
+-- all are told beside a tree
+abbrev pub AllTold : Walks → List Link → Type 0
+AllTold tree links = AllByRecursion (IsTold tree.setting tree.walks) links
 
 -- one is taken no later than another
 abbrev pub NoLater : FoundWalk → FoundWalk → Type 0
 NoLater a b = AtMostAt a.at.node (entry_of a) b.at.node (entry_of b)
 
-pub record IsQueue (q : Queue) : Type 0 where
-  pub heap : IsHeap heap_order q.later
-  pub first : (x y : FoundWalk) → Has q.front x → Has (waiting q) y → NoLater x y
+-- each comes no later than those before it, and than some others
+abbrev pub Falls : List FoundWalk → List FoundWalk → Type 0
+Falls others [] = Unit {0}
+Falls others (x ∷ xs) = ((y : FoundWalk) → Has xs y → NoLater y x) × ((y : FoundWalk) → Has others y → NoLater x y) × Falls others xs
 
--- those in front come no later than a walk that was taken, and that no later than all
-pub record IsLed (last : FoundWalk) (q : Queue) : Type 0 where
-  pub front : (x : FoundWalk) → Has q.front x → NoLater x last
-  pub all : (y : FoundWalk) → Has (waiting q) y → NoLater last y
+-- those in front cost the same, and the next of them stands last
+pub record IsQueue (tree : Walks) (q : Queue) : Type 0 where
+  pub told : AllTold tree (links_of q)
+  pub falls : Falls (walks_by tree q.later) (walks_by tree q.front)
+  pub level : (x y : Link) → Has q.front x → Has q.front y → x.cost ≡ y.cost
+
+-- a walk comes no later than those in a queue, and costs what those in front do
+pub record IsLed (tree : Walks) (last : Link) (q : Queue) : Type 0 where
+  pub queue : IsQueue tree q
+  pub level : (x : Link) → Has q.front x → x.cost ≡ last.cost
+  pub all : (y : FoundWalk) → Has (waiting tree q) y → NoLater (told_by tree last) y
 
 -- a least one is taken
-pub record IsFirstTaken (before : Queue) (taken : FoundWalk) (after : Queue) : Type 0 where
-  pub takes : TakesLeast (waiting before) taken (waiting after)
-  pub led : IsLed taken after
+pub record IsFirstTaken (tree : Walks) (before : Queue) (taken : Link) (after : Queue) : Type 0 where
+  pub takes : TakesLeast (waiting tree before) (told_by tree taken) (waiting tree after)
+  pub told : IsTold tree.setting tree.walks taken
+  pub led : IsLed tree taken after
+
+-- those in front are alike, and sooner than all others
+pub record AreFirst (q : Queue) : Type 0 where
+  pub alike : (x y : Link) → Has q.front x → Has q.front y → IsAlike x y
+  pub sooner : (x y : Link) → Has q.front x → Has q.later y → IsSooner x y
+  pub some : q.front ≡ [] → q.later ≡ []
+
+-- some are in front, where any are pending
+pub record IsFilled (tree : Walks) (before after : Queue) : Type 0 where
+  pub same : IsPermutation (links_of before) (links_of after)
+  pub queue : IsQueue tree after
+  pub some : after.front ≡ [] → after.later ≡ []
 
 -- a walk comes behind another, and is as near where it costs no more
-pub record IsBehind (last a : FoundWalk) : Type 0 where
-  pub later : NoLater last a
-  pub near : a.cost ≡ last.cost → NoLater a last
+pub record IsBehind (tree : Walks) (last a : Link) : Type 0 where
+  pub told : IsTold tree.setting tree.walks a
+  pub later : NoLater (told_by tree last) (told_by tree a)
+  pub near : a.cost ≡ last.cost → NoLater (told_by tree a) (told_by tree last)
+
+-- the extensions of a walk by those of some moves that lead to pairs with fewer than k walks are put behind others; each costs little more
+pub record IsGrown (tree : Walks) (k : ℕ) (a : FoundWalk) (ms : List Move) (before after : List Link) : Type 0 where
+  pub exact : walks_by tree after ≡ walks_by tree before ++ extensions tree.setting a (open_moves tree.walks k ms)
+  pub told : AllTold tree before → AllTold tree after
+  pub small : AllByRecursion (λ l. l.cost ≤ a.cost + 2 ^ 64) before → AllByRecursion (λ l. l.cost ≤ a.cost + 2 ^ 64) after

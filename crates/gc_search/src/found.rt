@@ -4,8 +4,8 @@ ghost use Rattle.gc_prod.specs.Leading.{pair};
 ghost use Rattle.gc_search.specs.Arrivals.{arrivals_at};
 ghost use Rattle.gc_search.specs.Finding.{walks_to, runs_to, potential_of};
 
-use crate::arrival::Arrival;
 use crate::settled::Settled;
+use crate::way::{run_along, steps_along};
 use gc_base::{Cost, Id, Memory, Sequence, Walk};
 use gc_prod::{Pair, Run};
 use std::marker::Model;
@@ -13,13 +13,13 @@ use std::marker::Model;
 /// The walks that a search finds from a source, by the node to which they lead. Contracts see the
 /// source, the number of the last state, and all walks, by the nodes at which they arrive.
 #[derive(Drop)]
-pub struct Found {
+pub struct Found<'a> {
     pub(crate) source: Id,
     pub(crate) last: u32,
-    pub(crate) walks: Settled,
+    pub(crate) walks: Settled<'a>,
 }
 
-impl Model for Found {
+impl<'a> Model for Found<'a> {
     ghost use Rattle.gc_search.specs.Finding.{Finding, AreFew};
 
     ghost Value = { Finding };
@@ -29,7 +29,7 @@ impl Model for Found {
     ghost invariant = { λ f. AreFew f.walks.walks };
 }
 
-impl Found {
+impl<'a> Found<'a> {
     /// How many walks lead to a node.
     pub fn count(&self, target: Id) -> u32
         ensures { result ≡ length (walks_to self.now target) }
@@ -46,7 +46,7 @@ impl Found {
         requires { i < length (walks_to self.now target) }
         ensures { option_map (λ w. w.cost) (slice_get (walks_to self.now target) i) ≡ Some result }
     {
-        Cost::of(self.arrival(target, i).cost)
+        Cost::of(self.walks.tree.at(self.place(target, i)).cost)
     }
 
     /// The i-th walk to a node, for a number below the count.
@@ -54,8 +54,10 @@ impl Found {
         requires { i < length (walks_to self.now target) }
         ensures { IfOk result (λ walk. option_map (λ w. w.walk) (slice_get (walks_to self.now target) i) ≡ Some walk) }
     {
-        let arrival = self.arrival(target, i);
-        let steps = Vec::from_slice(*arrival.steps.allocator(), &arrival.steps)?;
+        let steps = steps_along(
+            self.walks.tree.product,
+            self.walks.tree.way(self.place(target, i))?,
+        )?;
         Ok(Walk {
             start: self.source,
             steps: Sequence::from_vec(steps),
@@ -67,8 +69,7 @@ impl Found {
         requires { i < length (walks_to self.now target) }
         ensures { IfOk result (λ run. slice_get (runs_to self.now target) i ≡ Some run) }
     {
-        let arrival = self.arrival(target, i);
-        let run = Vec::from_slice(*arrival.run.allocator(), &arrival.run)?;
+        let run = run_along(self.walks.tree.way(self.place(target, i))?)?;
         Ok(Sequence::from_vec(run))
     }
 
@@ -77,24 +78,25 @@ impl Found {
         ensures { result ≡ potential_of self.now (pair node state) }
     {
         let at = Pair { node, state };
-        match self.walks.get(&at, 0) {
+        match self.walks.place(&at, 0) {
             None => None,
-            Some(arrival) => Some(Cost::of(arrival.cost)),
+            Some(place) => Some(Cost::of(self.walks.tree.at(place).cost)),
         }
     }
 
-    // The i-th that arrives at a node in the last state, for a number below how many do.
-    fn arrival(&self, target: Id, i: u32) -> &Arrival
+    // The place of the i-th walk that arrives at a node in the last state, for a number below how many do.
+    fn place(&self, target: Id, i: u32) -> usize
         requires { i < length (arrivals_at self.now.walks (pair target self.now.last)) }
-        ensures { slice_get (arrivals_at self.now.walks (pair target self.now.last)) i ≡ Some result.now }
+        ensures within { result < length self.now.walks }
+        ensures exact { slice_get self.now.walks result ≡ slice_get (arrivals_at self.now.walks (pair target self.now.last)) i }
     {
         let at = Pair {
             node: target,
             state: self.last,
         };
-        match self.walks.get(&at, i as usize) {
+        match self.walks.place(&at, i as usize) {
             None => unreachable!(),
-            Some(arrival) => arrival,
+            Some(place) => place,
         }
     }
 }

@@ -3,12 +3,16 @@
 //! query.
 #![tactic(auto)]
 
-mod arrival;
+mod comparing;
 mod found;
+mod link;
 mod pending;
 mod searching;
 mod settled;
 mod settling;
+mod tail;
+mod tree;
+mod way;
 
 pub use found::Found;
 pub use searching::{search, search_to};

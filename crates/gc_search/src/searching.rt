@@ -25,13 +25,13 @@ use std::sync::ledger::Ledger;
 /// that passes it at its cost, and leads to the last state; and for each node and state there is the
 /// least cost at which a run reaches them. All costs are below 2^127. It takes no more steps than k
 /// times the transitions, times the number of all nodes, edges and segments.
-pub fn search<L: Ledger>(
+pub fn search<'a, L: Ledger>(
     alloc: Global,
-    p: &Product,
+    p: &'a Product<'a>,
     source: Id,
     k: u32,
     steps: &mut Steps<L>,
-) -> Result<Found, Memory>
+) -> Result<Found<'a>, Memory>
     requires source { IsThere p.now.network source }
     requires segments { AreSegments p.now.network.graph p.now.network.segments }
     requires some { 0 < k }
@@ -57,14 +57,14 @@ pub fn search<L: Ledger>(
 
 /// The first k walks from a node to one node that a run passes from the first state to the last, as
 /// `search` finds them. It ends once these are found.
-pub fn search_to<L: Ledger>(
+pub fn search_to<'a, L: Ledger>(
     alloc: Global,
-    p: &Product,
+    p: &'a Product<'a>,
     source: Id,
     target: Id,
     k: u32,
     steps: &mut Steps<L>,
-) -> Result<Found, Memory>
+) -> Result<Found<'a>, Memory>
     requires source { IsThere p.now.network source }
     requires segments { AreSegments p.now.network.graph p.now.network.segments }
     requires some { 0 < k }

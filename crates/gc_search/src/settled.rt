@@ -1,63 +1,67 @@
 ghost use Rattle.std.specs.Prelude.{◌≡◌, ◌+◌, ◌*◌, ◌^◌, ◌<◌, ◌++◌, ◌∷◌, [], length, replicate, true, slice_get, slice_index, IfOk, IfSome, OnOk};
-ghost use Rattle.std.specs.Option.{option_copied};
+ghost use Rattle.std.specs.Option.{option_and_then};
 ghost use Rattle.std.specs.Ordering.{nat_cmp};
 ghost use Rattle.gc_base.specs.Ascending.{Ascends};
 ghost use Rattle.gc_search.specs.Arrivals.{arrivals_at, IsNotLast, IsSeen, Told};
-ghost use Rattle.gc_search.specs.Places.{place_in, number_of, places_from, IsNumbered};
+ghost use Rattle.gc_search.specs.Links.{walk_of, IsTold};
+ghost use Rattle.gc_search.specs.Places.{place_in, number_of, places_from, IsFresh, IsNumbered};
 
-use crate::arrival::Arrival;
+use crate::comparing::have_same_edges;
+use crate::link::Link;
+use crate::tree::WalkTree;
 use gc_base::{Id, Memory, Sequence};
-use gc_prod::Pair;
+use gc_prod::{Pair, Product};
 use std::alloc::Global;
 use std::marker::Model;
 
 // The walks that are settled, in the order in which they were, and for each pair of a node and a state
-// the places of those that arrive at it. Contracts see the nodes, the number above the states, and the
-// walks.
+// the places of those that arrive at it. Contracts see the product, the nodes, the number above the
+// states, and the walks.
 #[derive(Drop)]
-pub(crate) struct Settled {
-    nodes: Vec<Id>,
+pub(crate) struct Settled<'a> {
+    pub(crate) tree: WalkTree<'a>,
+    nodes: &'a [Id],
     width: usize,
-    walks: Vec<Arrival>,
     places: Vec<Sequence<usize>>,
 }
 
-impl Model for Settled {
+impl<'a> Model for Settled<'a> {
     ghost use Rattle.gc_search.specs.Places.{Listing, IsListed};
 
     ghost Value = { Listing };
 
-    ghost view = { λ s. record { nodes = s.nodes.items; width = s.width; walks = s.walks.items } };
+    ghost view = { λ s. record { setting = s.tree.setting; nodes = s.nodes.now; width = s.width; walks = s.tree.walks } };
 
-    ghost invariant = { λ s. IsListed s.nodes.items s.width s.walks.items s.places.items };
+    ghost invariant = { λ s. IsListed s.nodes.now s.width s.tree.walks s.places.items };
 }
 
-impl Settled {
-    // No walk is settled. There is a list for each of these nodes and each state below a number.
-    pub(crate) fn of(alloc: Global, nodes: &[Id], width: usize) -> Result<Settled, Memory>
-        requires { Ascends nat_cmp nodes.now }
-        ensures { IfOk result (λ s. s ≡ record { nodes = nodes.now; width = width; walks = [] }) }
+impl<'a> Settled<'a> {
+    // No walk is settled. There is a list for each node of a product and each state below a number.
+    pub(crate) fn of(alloc: Global, product: &'a Product<'a>) -> Result<Settled<'a>, Memory>
+        ensures { IfOk result (λ settled. IsFresh product.now settled) }
     {
+        let nodes = product.nodes();
+        let width = product.width();
         let Some(size) = nodes.len().checked_mul(width) else {
             return Err(Memory);
         };
-        let nodes = Vec::from_slice(alloc, nodes)?;
         let places = empty_lists(alloc, size)?;
         Ok(Settled {
+            tree: WalkTree::of(alloc, product),
             nodes,
             width,
-            walks: Vec::new(alloc),
             places,
         })
     }
 
     // Whether the edges of a walk are those of one that is settled at its pair.
-    pub(crate) fn is_seen(&self, next: &Arrival) -> bool
-        ensures { Told result (IsSeen self.now.walks next.now) (IsSeen self.now.walks next.now → ⊥) }
+    pub(crate) fn is_seen(&self, next: &Link) -> bool
+        ensures { Told result (IsSeen self.now.walks (walk_of self.now.setting self.now.walks next.now))
+            (IsSeen self.now.walks (walk_of self.now.setting self.now.walks next.now) → ⊥) }
     {
         let places = self.places_at(&next.at);
         for i in 0..places.len() {
-            if self.walks[places[i]].has_edges_of(next) {
+            if have_same_edges(&self.tree, self.tree.at(places[i]), next) {
                 return true;
             }
         }
@@ -65,14 +69,16 @@ impl Settled {
     }
 
     // Whether the edges of a walk are those of the last one that is settled at its pair.
-    pub(crate) fn is_last(&self, next: &Arrival) -> bool
-        ensures { Told result (IsSeen self.now.walks next.now) (IsNotLast self.now.walks next.now) }
+    pub(crate) fn is_last(&self, next: &Link) -> bool
+        ensures { Told result (IsSeen self.now.walks (walk_of self.now.setting self.now.walks next.now))
+            (IsNotLast self.now.walks (walk_of self.now.setting self.now.walks next.now)) }
     {
         let places = self.places_at(&next.at);
         if places.len() == 0 {
             return false;
         }
-        self.walks[places[places.len() - 1]].has_edges_of(next)
+        let last = self.tree.at(places[places.len() - 1]);
+        have_same_edges(&self.tree, last, next)
     }
 
     // How many are settled at a pair.
@@ -80,34 +86,36 @@ impl Settled {
         ensures exact { result ≡ length (arrivals_at self.now.walks at.now) }
         ensures few { length self.now.walks < 2 ^ 63 }
     {
-        let _few = self.walks.len();
+        let _few = self.tree.count();
         self.places_at(at).len()
     }
 
-    // The i-th of those that are settled at a pair.
-    pub(crate) fn get(&self, at: &Pair, i: usize) -> Option<&Arrival>
-        ensures { option_copied result ≡ slice_get (arrivals_at self.now.walks at.now) i }
+    // The place of the i-th of those that are settled at a pair.
+    pub(crate) fn place(&self, at: &Pair, i: usize) -> Option<usize>
+        ensures exact { option_and_then (slice_get self.now.walks) result ≡ slice_get (arrivals_at self.now.walks at.now) i }
+        ensures within { IfSome result (λ place. place < length self.now.walks) }
     {
         match self.places_at(at).get(i) {
             None => None,
-            Some(place) => Some(&self.walks[*place]),
+            Some(place) => Some(*place),
         }
     }
 
     // Settles a walk behind the others. Its pair has a number.
-    pub(crate) fn push(&mut self, next: Arrival) -> Result<(), Memory>
-        requires { IsNumbered self.old.nodes self.old.width next.at }
-        ensures { OnOk result (self.new ≡ record self.old { walks = self.old.walks ++ next ∷ [] }) }
+    pub(crate) fn push(&mut self, next: &Link) -> Result<(), Memory>
+        requires number { IsNumbered self.old.nodes self.old.width next.now.at }
+        requires told { IsTold self.old.setting self.old.walks next.now }
+        ensures { OnOk result (self.new ≡ record self.old { walks = self.old.walks ++ walk_of self.old.setting self.old.walks next.now ∷ [] }) }
     {
-        let Some(number) = number_of(&self.nodes, self.width, &next.at) else {
+        let Some(number) = number_of(self.nodes, self.width, &next.at) else {
             unreachable!()
         };
-        let place = self.walks.len();
-        self.walks.push(next)?;
+        let place = self.tree.count();
+        self.tree.push(*next)?;
         match self.places[number].push(place) {
             Ok(()) => Ok(()),
             Err(refused) => {
-                self.walks.pop();
+                self.tree.pop();
                 Err(refused)
             }
         }
@@ -117,7 +125,7 @@ impl Settled {
     fn places_at(&self, at: &Pair) -> &[usize]
         ensures { result.now ≡ places_from 0 self.now.walks at.now }
     {
-        match number_of(&self.nodes, self.width, at) {
+        match number_of(self.nodes, self.width, at) {
             None => &[],
             Some(number) => self.places[number].as_slice(),
         }

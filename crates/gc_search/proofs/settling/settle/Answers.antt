@@ -1,155 +1,261 @@
-use Rattle.std.proofs.Common.{◌≡◌, ◌+◌, ◌^◌, ◌≤◌, ◌++◌, ◌∷◌, [], ap, sym, subst, ◌∙◌, arith, length, length-append, List, sum_by}
-use Rattle.std.specs.List.{AllByRecursion}
-use Rattle.std.specs.List.Sorted.{IsPermutation}
+use Rattle.std.proofs.Common.{◌≡◌, ◌+◌, ◌*◌, ◌^◌, ◌≤◌, ◌++◌, ◌∷◌, [], ap, sym, subst, ◌∙◌, arith, length, length-append, List, Some, true, sum_by}
+use Rattle.std.specs.List.{slice_get}
 use Rattle.std.proofs.lemmas.List.{length-map}
 use Rattle.std.proofs.lemmas.List.Sorted.{length_permutation}
 use Rattle.std.proofs.lemmas.List.Sums.{sum_by-append}
-use Rattle.gc_spec.specs.PropertyGraph.{is_among}
+use Rattle.gc_automata.specs.Moves.{IsThere}
+use Rattle.gc_prod.specs.declared.moves.Pair.{Pair}
 use Rattle.gc_prod.specs.Leading.{pair}
-use Rattle.gc_prod.specs.Products.{moves}
-use Rattle.gc_search.specs.Arrivals.{FoundWalk, stays_at, extended, extensions, open_moves, IsNew}
-use Rattle.gc_search.specs.Counting.{asked, degree}
-use Rattle.gc_search.specs.Places.{Listing, IsNumbered}
-use Rattle.gc_search.specs.Waiting.{waiting, IsBehind}
-use Rattle.gc_search.proofs.NumberLaws.{LeadNumbered, AreNumbered, leads_numbered, taken_numbered, rest_numbered, more_numbered}
-use Rattle.gc_search.proofs.Turns.{IsOn, turn_start, turn_end, turn_done, turn_small, turn_old, turn_unseen, turn_settles}
-use Rattle.gc_search.proofs.WaitingLaws.{behind_all}
+use Rattle.gc_prod.specs.Products.{Setting, moves}
+use Rattle.gc_search.specs.Arrivals.{passages, settled_at, extended, open_moves, IsLowAt, IsNew}
+use Rattle.gc_search.specs.Counting.{asked, degree, most_moves}
+use Rattle.gc_search.specs.Links.{Link, starts_at}
+use Rattle.gc_search.specs.Passages.{Has, Passage, IsOnward, IsCounted, Reach, IsFirstK}
+use Rattle.gc_search.specs.Places.{Listing, tree_of}
+use Rattle.gc_search.specs.Waiting.{links_of, told_by, walks_by, waiting, IsFilled, IsGrown}
+use Rattle.gc_search.proofs.ReadyLaws.{IsReady, ready_start, ready_filled, ready_old, grown_by, taken_has_number, ready_settled, are_behind, led_on, next_got, low_there}
+use Rattle.gc_search.proofs.Turns.{turn_end, turn_done, turn_small, turn_unseen}
+use Rattle.gc_search.proofs.WaitingLaws.{queue}
 use Rattle.gc_search.proofs.WorkLaws.{asked_most, asked_more, open_fewer}
 use Rattle.gc_search.proofs.settling.settle.Goals as goal
 
 pub turns-init : goal.turns-init
 turns-init g c =
     let p = c.args.p.now in
-    let pending = waiting c.in_ok-pending.pending in
-    let first : stays_at c.args.source ∷ [] ≡ pending = sym (ap waiting c.in_ok-pending.ensures ∙ ap (λ (a : FoundWalk). a ∷ []) c.start.ensures) in
-    let settled = c.in_ok-settled.settled in
-    let nodes = c.nodes.result.now in
-    let width = c.width.result in
-    let is = c.in_ok-settled.ensures in
-    let start : IsNumbered nodes width (pair c.args.source 0) = record {
-      node = ap (λ ids. is_among ids c.args.source) c.nodes.ensures.nodes ∙ c.requires.source;
-      state = c.width.ensures.some;
-    } in
+    let source = c.args.source in
+    let k = c.args.k in
+    let l = c.in_ok-settled.settled in
+    let fresh = c.in_ok-settled.ensures in
+    let there = subst (λ (s : Setting). IsThere s.network source) (sym fresh.setting) c.requires.source in
+    let first : queue (starts_at source ∷ []) [] ≡ c.in_ok-pending.pending = sym (c.in_ok-pending.ensures ∙ ap (λ (a : Link). queue (a ∷ []) []) c.start.ensures) in
     record {
-      on = subst (λ (s : Listing). IsOn p c.args.source c.args.k s.walks pending) (sym is) (turn_start p c.args.source c.args.k pending first);
+      same = fresh.setting;
+      ready = subst (IsReady source k l) first (ready_start p source k l fresh there);
+      none = c.new-more.ensures.items;
       few = omega arith;
-      lead = subst (λ (s : Listing). LeadNumbered p s.nodes s.width) (sym is) (leads_numbered p nodes width c.nodes.ensures.network c.nodes.ensures.nodes c.width.ensures.above);
-      numbered = subst (λ (l : List FoundWalk). AreNumbered settled.nodes settled.width l) first
-          (subst (λ (s : Listing). IsNumbered s.nodes s.width (pair c.args.source 0)) (sym is) start, tt);
     }
 
 pub returns-in_default-clause-first : goal.returns-in_default-clause-first
-returns-in_default-clause-first g c = λ q asked.
-    turn_end c.args.p.now c.args.source c.args.k c.turns.settled.walks (waiting c.turns.pending) c.turns.invariant.on c.in_default.ensures.none q
+returns-in_default-clause-first g c = λ p asked.
+    let l = c.turns.settled in
+    let inv = c.turns.invariant in
+    let source = c.args.source in
+    let k = c.args.k in
+    let q = c.fill_front.new.self in
+    let filled = subst (λ (s : Listing). IsFilled (tree_of s) c.turns.pending q) c.settled-in-turns.view_is c.in_ok-fill_front.ensures in
+    let ready = ready_filled source k l c.turns.pending q inv.ready filled in
+    let none : waiting (tree_of l) q ≡ [] = ap (λ (v : List Link). walks_by (tree_of l) v) c.in_default.ensures.none in
+    subst (λ (s : Setting). IsFirstK k (Reach (passages s) (pair source 0) p) (settled_at l.walks p)) inv.same (turn_end l.setting source k l.walks (waiting (tree_of l) q) ready.on none p)
 
 pub returns-clause-first : goal.returns-clause-first
-returns-clause-first g c = λ q asked.
-    turn_done c.args.p.now c.args.source c.args.k c.requires.costs c.args.target c.turns.settled.walks (waiting c.turns.pending) c.turns.invariant.on (c.is_done.ensures c.turns-test.false) q asked
+returns-clause-first g c = λ p asked.
+    let l = c.turns.settled in
+    let inv = c.turns.invariant in
+    let source = c.args.source in
+    let k = c.args.k in
+    let costs = subst (λ (s : Setting). (v : Pair) (m : Passage Pair) → Has (passages s v) m → IsOnward (λ r. r.node) v m) (sym inv.same) c.requires.costs in
+    subst (λ (s : Setting). IsFirstK k (Reach (passages s) (pair source 0) p) (settled_at l.walks p)) inv.same
+    (turn_done l.setting source k costs c.args.target l.walks (waiting (tree_of l) c.turns.pending) inv.ready.on (c.is_done.ensures c.turns-test.false) p asked)
+
+pub returns-in_err-fill_front-clause-few : goal.returns-in_err-fill_front-clause-few
+returns-in_err-fill_front-clause-few g c =
+    let l = c.turns.settled in
+    omega (arith, c.turns.invariant.few, asked_most l.setting c.args.k l.walks c.turns.invariant.ready.on.state.few, ap (λ (s : Setting). c.args.k * most_moves s) c.turns.invariant.same)
 
 pub returns-in_default-clause-few : goal.returns-in_default-clause-few
-returns-in_default-clause-few g c = omega (arith, c.turns.invariant.few, asked_most c.args.p.now c.args.k c.turns.settled.walks c.turns.invariant.on.state.few)
-
-pub returns-clause-few : goal.returns-clause-few
-returns-clause-few g c = omega (arith, c.turns.invariant.few, asked_most c.args.p.now c.args.k c.turns.settled.walks c.turns.invariant.on.state.few)
-
-pub all_extended-requires : goal.all_extended-requires
-all_extended-requires g c =
-    let small = turn_small c.args.p.now c.args.source c.args.k c.turns.settled.walks (waiting c.turns.pending) (waiting c.take_least.new.self) c.in-Some.next c.turns.invariant.on c.in-Some.ensures.some.takes in
-    omega (arith, small, c.is_new.ensures.few)
-
-pub returns-in_err-all_extended-clause-few : goal.returns-in_err-all_extended-clause-few
-returns-in_err-all_extended-clause-few g c =
-    let inv = c.turns.invariant in
-    let new = c.if-is_new.ensures.told in
-    omega (arith, inv.few, c.all_extended.ensures.few, asked_more c.args.p.now c.args.k c.turns.settled.walks inv.on.state.few c.in-Some.next new.0)
-
-pub returns-in_err-add_all-clause-few : goal.returns-in_err-add_all-clause-few
-returns-in_err-add_all-clause-few g c =
-    let inv = c.turns.invariant in
-    let new = c.if-is_new.ensures.told in
-    omega (arith, inv.few, c.all_extended.ensures.few, asked_more c.args.p.now c.args.k c.turns.settled.walks inv.on.state.few c.in-Some.next new.0)
+returns-in_default-clause-few g c =
+    let l = c.turns.settled in
+    omega (arith, c.turns.invariant.few, asked_most l.setting c.args.k l.walks c.turns.invariant.ready.on.state.few, ap (λ (s : Setting). c.args.k * most_moves s) c.turns.invariant.same)
 
 pub returns-in_err-push-clause-few : goal.returns-in_err-push-clause-few
 returns-in_err-push-clause-few g c =
+    let l = c.turns.settled in
+    omega (arith, c.turns.invariant.few, asked_most l.setting c.args.k l.walks c.turns.invariant.ready.on.state.few, ap (λ (s : Setting). c.args.k * most_moves s) c.turns.invariant.same)
+
+pub returns-clause-few : goal.returns-clause-few
+returns-clause-few g c =
+    let l = c.turns.settled in
+    omega (arith, c.turns.invariant.few, asked_most l.setting c.args.k l.walks c.turns.invariant.ready.on.state.few, ap (λ (s : Setting). c.args.k * most_moves s) c.turns.invariant.same)
+
+pub returns-in_err-add_all_extended-clause-few : goal.returns-in_err-add_all_extended-clause-few
+returns-in_err-add_all_extended-clause-few g c =
+    let l = c.turns.settled in
     let inv = c.turns.invariant in
-    let new = c.if-is_new.ensures.told in
-    omega (arith, inv.few, c.all_extended.ensures.few, asked_more c.args.p.now c.args.k c.turns.settled.walks inv.on.state.few c.in-Some.next new.0)
+    let k = c.args.k in
+    let w = told_by (tree_of l) c.in-Some.next in
+    let is : c.push.new.self ≡ grown_by l w = c.in_ok-push.ensures in
+    let place : length l.walks ≡ c.count-place.result = omega (arith, c.count-place.ensures.exact, ap (λ (s : Listing). length s.walks) c.settled-in-turns.view_is) in
+    let there = subst (λ (s : Listing). slice_get s.walks c.count-place.result ≡ Some w) (sym is) (subst (λ n. slice_get (l.walks ++ w ∷ []) n ≡ Some w) place (next_got l.walks w)) in
+    let steps = subst (λ (s : Listing). c.add_all_extended.new.steps ≤ c.turns.steps + degree s.setting w) is (c.add_all_extended.ensures.few w there) in
+    omega (arith, inv.few, steps, asked_more l.setting k l.walks inv.ready.on.state.few w c.if-is_new.ensures.told.0, ap (λ (s : Setting). k * most_moves s) inv.same)
+
+pub returns-in_err-add_all-clause-few : goal.returns-in_err-add_all-clause-few
+returns-in_err-add_all-clause-few g c =
+    let l = c.turns.settled in
+    let inv = c.turns.invariant in
+    let k = c.args.k in
+    let w = told_by (tree_of l) c.in-Some.next in
+    let is : c.push.new.self ≡ grown_by l w = c.in_ok-push.ensures in
+    let place : length l.walks ≡ c.count-place.result = omega (arith, c.count-place.ensures.exact, ap (λ (s : Listing). length s.walks) c.settled-in-turns.view_is) in
+    let there = subst (λ (s : Listing). slice_get s.walks c.count-place.result ≡ Some w) (sym is) (subst (λ n. slice_get (l.walks ++ w ∷ []) n ≡ Some w) place (next_got l.walks w)) in
+    let steps = subst (λ (s : Listing). c.add_all_extended.new.steps ≤ c.turns.steps + degree s.setting w) is (c.add_all_extended.ensures.few w there) in
+    omega (arith, inv.few, steps, asked_more l.setting k l.walks inv.ready.on.state.few w c.if-is_new.ensures.told.0, ap (λ (s : Setting). k * most_moves s) inv.same)
+
+pub push-requires-clause-number : goal.push-requires-clause-number
+push-requires-clause-number g c =
+    let l = c.turns.settled in
+    let inv = c.turns.invariant in
+    let source = c.args.source in
+    let k = c.args.k in
+    let q = c.fill_front.new.self in
+    let filled = subst (λ (s : Listing). IsFilled (tree_of s) c.turns.pending q) c.settled-in-turns.view_is c.in_ok-fill_front.ensures in
+    let ready = ready_filled source k l c.turns.pending q inv.ready filled in
+    let r = c.take_least.new.self in
+    let t = c.in-Some.next in
+    let first = c.in-Some.ensures.some (tree_of l) ready.queue in
+    let w = told_by (tree_of l) t in
+    taken_has_number source k l q r t ready first
+
+pub add_all_extended-requires-clause-low : goal.add_all_extended-requires-clause-low
+add_all_extended-requires-clause-low g c =
+    let l = c.turns.settled in
+    let inv = c.turns.invariant in
+    let source = c.args.source in
+    let k = c.args.k in
+    let q = c.fill_front.new.self in
+    let filled = subst (λ (s : Listing). IsFilled (tree_of s) c.turns.pending q) c.settled-in-turns.view_is c.in_ok-fill_front.ensures in
+    let ready = ready_filled source k l c.turns.pending q inv.ready filled in
+    let r = c.take_least.new.self in
+    let t = c.in-Some.next in
+    let first = c.in-Some.ensures.some (tree_of l) ready.queue in
+    let w = told_by (tree_of l) t in
+    let is : c.push.new.self ≡ grown_by l w = c.in_ok-push.ensures in
+    let place : length l.walks ≡ c.count-place.result = omega (arith, c.count-place.ensures.exact, ap (λ (s : Listing). length s.walks) c.settled-in-turns.view_is) in
+    let small = turn_small l.setting source k l.walks (waiting (tree_of l) q) (waiting (tree_of l) r) w ready.on first.takes in
+    let low : w.cost + 2 ^ 64 ≤ 2 ^ 128 = omega (arith, small, c.is_new.ensures.few) in
+    subst (λ (s : Listing). IsLowAt s.walks c.count-place.result) (sym is) (subst (IsLowAt (l.walks ++ w ∷ [])) place (low_there l.walks w low))
 
 -- the least walk is dropped
 pub turns-preserved : goal.turns-preserved
 turns-preserved g c =
+    let l = c.turns.settled in
     let inv = c.turns.invariant in
-    record {
-      on = turn_old c.args.p.now c.args.source c.args.k c.turns.settled.walks (waiting c.turns.pending) (waiting c.take_least.new.self) c.in-Some.next inv.on c.in-Some.ensures.some.takes c.if-is_new.ensures.told;
-      few = inv.few;
-      lead = inv.lead;
-      numbered = rest_numbered c.turns.settled.nodes c.turns.settled.width (waiting c.turns.pending) (waiting c.take_least.new.self) c.in-Some.next c.in-Some.ensures.some.takes
-          inv.numbered;
-    }
+    let source = c.args.source in
+    let k = c.args.k in
+    let q = c.fill_front.new.self in
+    let filled = subst (λ (s : Listing). IsFilled (tree_of s) c.turns.pending q) c.settled-in-turns.view_is c.in_ok-fill_front.ensures in
+    let ready = ready_filled source k l c.turns.pending q inv.ready filled in
+    let r = c.take_least.new.self in
+    let t = c.in-Some.next in
+    let first = c.in-Some.ensures.some (tree_of l) ready.queue in
+    let w = told_by (tree_of l) t in
+    record { same = inv.same; ready = ready_old source k l q r t ready first c.if-is_new.ensures.told; none = inv.none; few = inv.few }
 
-pub push-requires : goal.push-requires
-push-requires g c =
-    taken_numbered c.turns.settled.nodes c.turns.settled.width (waiting c.turns.pending) (waiting c.take_least.new.self) c.in-Some.next c.in-Some.ensures.some.takes
-    c.turns.invariant.numbered
+pub turns-smaller : goal.turns-smaller
+turns-smaller g c =
+    let l = c.turns.settled in
+    let inv = c.turns.invariant in
+    let source = c.args.source in
+    let k = c.args.k in
+    let q = c.fill_front.new.self in
+    let filled = subst (λ (s : Listing). IsFilled (tree_of s) c.turns.pending q) c.settled-in-turns.view_is c.in_ok-fill_front.ensures in
+    let ready = ready_filled source k l c.turns.pending q inv.ready filled in
+    let r = c.take_least.new.self in
+    let t = c.in-Some.next in
+    let first = c.in-Some.ensures.some (tree_of l) ready.queue in
+    let w = told_by (tree_of l) t in
+    omega (
+      arith,
+      length_permutation (links_of c.turns.pending) (links_of q) filled.same,
+      first.takes.shorter,
+      length-map (links_of q) (told_by (tree_of l)),
+      length-map (links_of r) (told_by (tree_of l)),
+    )
 
 -- the least walk is settled
-pub turns-preserved-in_ok-push : goal.turns-preserved-in_ok-push
-turns-preserved-in_ok-push g c =
-    let p = c.args.p.now in
-    let k = c.args.k in
-    let walks = c.turns.settled.walks in
-    let next = c.in-Some.next in
+pub turns-preserved-in-Continue-branch-6 : goal.turns-preserved-in-Continue-branch-6
+turns-preserved-in-Continue-branch-6 g c =
+    let l = c.turns.settled in
     let inv = c.turns.invariant in
-    let rest = waiting c.take_least.new.self in
-    let after = waiting c.add_all.new.self in
-    let more = extensions p next (open_moves walks k (moves p next.at.node next.at.state)) in
+    let source = c.args.source in
+    let k = c.args.k in
+    let q = c.fill_front.new.self in
+    let filled = subst (λ (s : Listing). IsFilled (tree_of s) c.turns.pending q) c.settled-in-turns.view_is c.in_ok-fill_front.ensures in
+    let ready = ready_filled source k l c.turns.pending q inv.ready filled in
+    let r = c.take_least.new.self in
+    let t = c.in-Some.next in
+    let first = c.in-Some.ensures.some (tree_of l) ready.queue in
+    let w = told_by (tree_of l) t in
+    let is : c.push.new.self ≡ grown_by l w = c.in_ok-push.ensures in
+    let place : length l.walks ≡ c.count-place.result = omega (arith, c.count-place.ensures.exact, ap (λ (s : Listing). length s.walks) c.settled-in-turns.view_is) in
+    let there = subst (λ (s : Listing). slice_get s.walks c.count-place.result ≡ Some w) (sym is) (subst (λ n. slice_get (l.walks ++ w ∷ []) n ≡ Some w) place (next_got l.walks w)) in
+    let costs = subst (λ (s : Setting). (v : Pair) (m : Passage Pair) → Has (passages s v) m → IsOnward (λ r. r.node) v m) (sym inv.same) c.requires.costs in
+    let plain = subst (λ (s : Setting). c.args.plain ≡ true → (v : Pair) (m : Passage Pair) → Has (passages s v) m → IsCounted m) (sym inv.same) c.requires.plain in
     let told = c.if-is_new.ensures.told in
-    let fresh : IsNew walks k next = (
-      told.0,
-      turn_unseen p c.args.source k walks (waiting c.turns.pending) rest next inv.on c.in-Some.ensures.some.takes c.args.plain c.requires.plain told.1,
-    ) in
-    let exact : c.in_ok-all_extended.field-0.items ≡ more = c.in_ok-all_extended.ensures.exact in
-    let grown : IsPermutation (rest ++ more) after = subst (λ (l : List FoundWalk). IsPermutation (rest ++ l) after) exact c.in_ok-add_all.ensures in
-    let small = subst (AllByRecursion (λ (a : FoundWalk). a.cost ≤ next.cost + 2 ^ 64)) exact c.in_ok-all_extended.ensures.small in
-    let settled = c.turns.settled in
-    let is = c.in_ok-push.ensures in
-    let one : c.push.new.self.walks ≡ walks ++ next ∷ [] = ap (λ (s : Listing). s.walks) is in
-    let all = more_numbered settled.nodes settled.width (waiting c.turns.pending) rest next c.in-Some.ensures.some.takes inv.numbered p inv.lead walks k after grown in
-    let single : sum_by (degree p) (next ∷ []) ≡ degree p next = omega arith in
+    let fresh : IsNew l.walks k w = (told.0, turn_unseen l.setting source k l.walks (waiting (tree_of l) q) (waiting (tree_of l) r) w ready.on first.takes c.args.plain plain told.1) in
+    let more = c.add_all_extended.new.more.items in
+    let ms = moves l.setting w.at.node w.at.state in
+    let grows = subst (λ (v : List Link). IsGrown (tree_of (grown_by l w)) k w ms v more) inv.none
+    (subst (λ (s : Listing). IsGrown (tree_of s) k w (moves s.setting w.at.node w.at.state) c.turns.more.items more) is (c.in_ok-add_all_extended.ensures.grown w there)) in
+    let few = c.is_new.ensures.few in
+    let s = c.add_all.new.self in
+    let led = c.in_ok-add_all.ensures.led (tree_of (grown_by l w)) (led_on source k l q r t ready first costs fresh few more grows) (are_behind source k l q r t ready first costs fresh few more grows) in
+    let steps = subst (λ (v : Listing). c.add_all_extended.new.steps ≤ c.turns.steps + degree v.setting w) is (c.add_all_extended.ensures.few w there) in
+    let one : asked c.push.new.self.setting c.push.new.self.walks ≡ asked l.setting l.walks + sum_by (degree l.setting) (w ∷ []) =
+    ap (λ (v : Listing). asked v.setting v.walks) is ∙ sum_by-append (degree l.setting) l.walks (w ∷ []) in
+    let single : sum_by (degree l.setting) (w ∷ []) ≡ degree l.setting w = omega arith in
     record {
-      on = subst (λ (l : List FoundWalk). IsOn p c.args.source k l after) (sym one)
-          (turn_settles p c.args.source k walks (waiting c.turns.pending) rest next inv.on c.in-Some.ensures.some.takes c.requires.costs fresh c.is_new.ensures.few after grown small);
-      few = omega (arith, inv.few, c.all_extended.ensures.few, ap (asked p) one, sum_by-append (degree p) walks (next ∷ []), single);
-      lead = subst (λ (s : Listing). LeadNumbered p s.nodes s.width) (sym is) inv.lead;
-      numbered = subst (λ (s : Listing). AreNumbered s.nodes s.width after) (sym is) all;
+      same = ap (λ (v : Listing). v.setting) is ∙ inv.same;
+      ready = subst (λ (v : Listing). IsReady source k v s) (sym is) (ready_settled source k l q r t ready first costs fresh few more grows s c.in_ok-add_all.ensures.added led);
+      none = c.in_ok-add_all.ensures.none;
+      few = omega (arith, inv.few, steps, one, single);
     }
 
-pub turns-smaller-in_ok-push : goal.turns-smaller-in_ok-push
-turns-smaller-in_ok-push g c =
-    let p = c.args.p.now in
-    let k = c.args.k in
-    let walks = c.turns.settled.walks in
-    let next = c.in-Some.next in
+pub turns-smaller-in-Continue-branch-6 : goal.turns-smaller-in-Continue-branch-6
+turns-smaller-in-Continue-branch-6 g c =
+    let l = c.turns.settled in
     let inv = c.turns.invariant in
-    let rest = waiting c.take_least.new.self in
-    let after = waiting c.add_all.new.self in
-    let ms = moves p next.at.node next.at.state in
-    let some = open_moves walks k ms in
-    let more = extensions p next some in
-    let new = c.if-is_new.ensures.told in
-    let exact : c.in_ok-all_extended.field-0.items ≡ more = c.in_ok-all_extended.ensures.exact in
-    let grown : IsPermutation (rest ++ more) after = subst (λ (l : List FoundWalk). IsPermutation (rest ++ l) after) exact c.in_ok-add_all.ensures in
-    let one : asked p c.push.new.self.walks ≡ asked p walks + sum_by (degree p) (next ∷ []) = ap (λ (s : Listing). asked p s.walks) c.in_ok-push.ensures ∙ sum_by-append (degree p) walks (next ∷ []) in
-    let single : sum_by (degree p) (next ∷ []) ≡ length ms = omega arith in
-    let larger : length after ≡ length rest + length some =
-    length_permutation (rest ++ more) after grown ∙ (length-append rest more ∙ ap (λ n. length rest + n) (length-map some (extended p next))) in
-    omega (arith, one, single, larger, open_fewer walks k ms, c.in-Some.ensures.some.takes.shorter, asked_more p k walks inv.on.state.few next new.0)
-
-pub add_all-requires : goal.add_all-requires
-add_all-requires g c =
-    let p = c.args.p.now in
-    let next = c.in-Some.next in
-    record {
-      led = c.in-Some.ensures.some.led;
-      behind = subst (AllByRecursion (IsBehind next)) (sym c.in_ok-all_extended.ensures.exact) (behind_all p c.requires.costs next c.turns.settled.walks c.args.k);
-    }
+    let source = c.args.source in
+    let k = c.args.k in
+    let q = c.fill_front.new.self in
+    let filled = subst (λ (s : Listing). IsFilled (tree_of s) c.turns.pending q) c.settled-in-turns.view_is c.in_ok-fill_front.ensures in
+    let ready = ready_filled source k l c.turns.pending q inv.ready filled in
+    let r = c.take_least.new.self in
+    let t = c.in-Some.next in
+    let first = c.in-Some.ensures.some (tree_of l) ready.queue in
+    let w = told_by (tree_of l) t in
+    let is : c.push.new.self ≡ grown_by l w = c.in_ok-push.ensures in
+    let place : length l.walks ≡ c.count-place.result = omega (arith, c.count-place.ensures.exact, ap (λ (s : Listing). length s.walks) c.settled-in-turns.view_is) in
+    let there = subst (λ (s : Listing). slice_get s.walks c.count-place.result ≡ Some w) (sym is) (subst (λ n. slice_get (l.walks ++ w ∷ []) n ≡ Some w) place (next_got l.walks w)) in
+    let costs = subst (λ (s : Setting). (v : Pair) (m : Passage Pair) → Has (passages s v) m → IsOnward (λ r. r.node) v m) (sym inv.same) c.requires.costs in
+    let plain = subst (λ (s : Setting). c.args.plain ≡ true → (v : Pair) (m : Passage Pair) → Has (passages s v) m → IsCounted m) (sym inv.same) c.requires.plain in
+    let told = c.if-is_new.ensures.told in
+    let fresh : IsNew l.walks k w = (told.0, turn_unseen l.setting source k l.walks (waiting (tree_of l) q) (waiting (tree_of l) r) w ready.on first.takes c.args.plain plain told.1) in
+    let more = c.add_all_extended.new.more.items in
+    let ms = moves l.setting w.at.node w.at.state in
+    let grows = subst (λ (v : List Link). IsGrown (tree_of (grown_by l w)) k w ms v more) inv.none
+    (subst (λ (s : Listing). IsGrown (tree_of s) k w (moves s.setting w.at.node w.at.state) c.turns.more.items more) is (c.in_ok-add_all_extended.ensures.grown w there)) in
+    let s = c.add_all.new.self in
+    let one : asked c.push.new.self.setting c.push.new.self.walks ≡ asked l.setting l.walks + sum_by (degree l.setting) (w ∷ []) =
+    ap (λ (v : Listing). asked v.setting v.walks) is ∙ sum_by-append (degree l.setting) l.walks (w ∷ []) in
+    let most : k * most_moves c.push.new.self.setting ≡ k * most_moves l.setting = ap (λ (v : Listing). k * most_moves v.setting) is in
+    let single : sum_by (degree l.setting) (w ∷ []) ≡ length ms = omega arith in
+    let some = open_moves (grown_by l w).walks k ms in
+    let count : length more ≡ length some =
+    sym (length-map more (told_by (tree_of (grown_by l w)))) ∙ (ap length grows.exact ∙ length-map some (extended l.setting w)) in
+    let larger : length (links_of s) ≡ length (links_of r) + length more =
+    length_permutation (links_of r ++ more) (links_of s) c.in_ok-add_all.ensures.added ∙ length-append (links_of r) more in
+    omega (
+      arith,
+      one,
+      most,
+      single,
+      count,
+      larger,
+      open_fewer (grown_by l w).walks k ms,
+      length_permutation (links_of c.turns.pending) (links_of q) filled.same,
+      first.takes.shorter,
+      length-map (links_of q) (told_by (tree_of l)),
+      length-map (links_of r) (told_by (tree_of l)),
+      asked_more l.setting k l.walks inv.ready.on.state.few w told.0,
+    )

@@ -1,46 +1,34 @@
-use Rattle.std.proofs.Common.{◌≡◌, List, [], ◌∷◌, Option, Some, None, sym, subst, arith}
-use Rattle.std.specs.BinaryHeap.{heap_items, IsHeap, PopsGreatest}
-use Rattle.std.specs.List.Sorted.{IsPermutation}
-use Rattle.std.specs.Option.{IfSome}
-use Rattle.gc_search.specs.Arrivals.{FoundWalk}
-use Rattle.gc_search.specs.HeapOrder.{heap_order}
-use Rattle.gc_search.specs.Waiting.{Queue, IsQueue, IsFirstTaken}
+use Rattle.std.proofs.Common.{◌≡◌, List, [], ◌++◌, Option, Some, None, sym, ap, subst, ◌∙◌, arith}
+use Rattle.std.specs.BinaryHeap.{heap_items}
+use Rattle.std.specs.Option.{IfSome, IfNone, MatchOption, option_to_list}
+use Rattle.gc_search.specs.Links.{Link, Walks}
+use Rattle.gc_search.specs.Waiting.{Queue, links_of, IsQueue, IsFirstTaken}
 use Rattle.gc_search.proofs.HeapLaws.{none_there}
-use Rattle.gc_search.proofs.WaitingLaws.{queue, front_queue, front_taken, heap_taken}
+use Rattle.gc_search.proofs.WaitingLaws.{queue, front_taken}
 use Rattle.gc_search.proofs.pending.Pending.take_least.Goals as goal
 
-pub invariant_of-self : goal.invariant_of-self
-invariant_of-self c =
+taken : (later front rest : List Link) (o : Option Link) → front ≡ rest ++ option_to_list o
+    → IfSome o (λ t. (tree : Walks) → IsQueue tree (queue front later) → IsFirstTaken tree (queue front later) t (queue rest later))
+taken later front rest None e = tt
+taken later front rest (Some t) e = λ tree q.
+    subst (λ (l : List Link). IsFirstTaken tree (queue l later) t (queue rest later)) (sym e) (front_taken tree rest later t (subst (λ (l : List Link). IsQueue tree (queue l later)) e q))
+
+none : (P : Type 0) (Q : Link → Type 0) (o : Option Link) (q : Queue) → MatchOption o P Q → (P → q.front ≡ []) → (q.front ≡ [] → q.later ≡ []) → IfNone o (links_of q ≡ [])
+none P Q None q m empty last = let e = empty m in ap (λ (l : List Link). l ++ q.later) e ∙ last e
+none P Q (Some t) q m empty last = tt
+
+pub returns-clause-some : goal.returns-clause-some
+returns-clause-some c =
     let later = heap_items c.self.inside.heap in
-    let old = c.self.inside.front.items in
-    let front = c.pop.new.self.items in
-    let x = c.in-Some.next in
-    front_queue front later x (subst (λ (l : List FoundWalk). IsQueue (queue l later)) c.in-Some.ensures.items c.self.invariant)
-
-pub returns-in-Some-clause-some : goal.returns-in-Some-clause-some
-returns-in-Some-clause-some c =
-    let later = heap_items c.self.inside.heap in
-    let front = c.pop.new.self.items in
-    let x = c.in-Some.next in
-    let taken = front_taken front later x (subst (λ (l : List FoundWalk). IsQueue (queue l later)) c.in-Some.ensures.items c.self.invariant) in
-    subst (λ (q : Queue). IsFirstTaken q x (queue front later)) c.self.view_is
-    (subst (λ (l : List FoundWalk). IsFirstTaken (queue l later) x (queue front later)) (sym c.in-Some.ensures.items) taken)
-
-handed_out : (r : Option FoundWalk) (before after : List FoundWalk) → IfSome r (λ x. IsPermutation before (x ∷ after)) → IfSome r (λ x. PopsGreatest heap_order before x after)
-    → IsHeap heap_order before → IfSome r (λ x. IsFirstTaken (queue [] before) x (queue [] after))
-handed_out None before after p g h = tt
-handed_out (Some x) before after p g h = heap_taken before after x p (g h).1
-
-pub returns-in-None-clause-some : goal.returns-in-None-clause-some
-returns-in-None-clause-some c =
     let front = c.self.inside.front.items in
-    let later = heap_items c.self.inside.heap in
     let rest = c.pop.new.self.items in
-    let after = heap_items c.pop-in-None.new.self in
-    let r = c.pop-in-None.result in
-    let none : front ≡ [] = none_there front (omega (arith, c.in-None.ensures.cases, c.self.inside.front.ok)) in
-    let left : rest ≡ [] = none_there rest (omega (arith, c.in-None.ensures.cases, c.pop.new.self.ok)) in
-    let taken = handed_out r later after c.pop-in-None.ensures.permutation c.pop-in-None.ensures.heap_order c.self.invariant.heap in
-    subst (λ (q : Queue). IfSome r (λ x. IsFirstTaken q x (queue rest after))) c.self.view_is
-    (subst (λ (l : List FoundWalk). IfSome r (λ x. IsFirstTaken (queue l later) x (queue rest after))) (sym none)
-    (subst (λ (l : List FoundWalk). IfSome r (λ x. IsFirstTaken (queue [] later) x (queue l after))) (sym left) taken))
+    subst (λ (q : Queue). IfSome c.pop.result (λ t. (tree : Walks) → IsQueue tree q → IsFirstTaken tree q t (queue rest later))) c.self.view_is
+    (taken later front rest c.pop.result c.pop.ensures.items)
+
+pub returns-clause-none : goal.returns-clause-none
+returns-clause-none c =
+    let front = c.self.inside.front.items in
+    let q = queue front (heap_items c.self.inside.heap) in
+    subst (λ (v : Queue). IfNone c.pop.result (links_of v ≡ [])) c.self.view_is
+    (none _ _ c.pop.result q c.pop.ensures.cases (λ h. none_there front (omega (arith, h.0, c.self.inside.front.ok)))
+    (subst (λ (v : Queue). v.front ≡ [] → v.later ≡ []) (sym c.self.view_is) c.requires))

@@ -1,9 +1,11 @@
 use Rattle.std.proofs.Common.{◌≡◌, ◌-◌, ◌++◌, ◌∷◌, [], ℕ, List, Bool, true, false, length, get_or, refl, sym, ap, subst, arith, ◌∙◌, Some, length-append}
 use Rattle.std.specs.List.{slice_get}
 use Rattle.gc_search.specs.Arrivals.{FoundWalk, arrivals_at, edges_along, Told}
+use Rattle.gc_search.specs.Links.{Link, walk_of}
 use Rattle.gc_search.specs.Places.{places_from, Listing}
+use Rattle.gc_search.specs.Tails.{edges_told}
 use Rattle.gc_search.proofs.LoopLaws.{edges_there}
-use Rattle.gc_search.proofs.PlaceLaws.{places_count, read_place, read_below, read_walk}
+use Rattle.gc_search.proofs.PlaceLaws.{places_count, read_place, read_below, read_at}
 use Rattle.gc_search.proofs.settled.Settled.is_last.Goals as goal
 
 last_got : {X : Type 0} (xs : List X) (y : X) → slice_get (xs ++ y ∷ []) (length xs) ≡ Some y
@@ -23,33 +25,39 @@ pub returns-then-places-eq0 : goal.returns-then-places-eq0
 returns-then-places-eq0 c = λ xs y is same.
     let walks = c.args.self.now.walks in
     let next = c.args.next.now in
-    let are : c.places_at-places.result.now ≡ places_from 0 walks next.at = c.places_at-places.ensures ∙ ap (λ (a : FoundWalk). places_from 0 walks a.at) c.next.view_is in
+    let are : c.places_at-places.result.now ≡ places_from 0 walks next.at = c.places_at-places.ensures ∙ ap (λ (a : Link). places_from 0 walks a.at) c.next.view_is in
     omega (arith, c.if-places-eq0.true, ap length are, places_count 0 walks next.at, ap length is, length-append xs (y ∷ []))
 
-pub index-requires : goal.index-requires
-index-requires c =
+pub at-last-requires : goal.at-last-requires
+at-last-requires c =
     let walks = c.args.self.now.walks in
     let q = c.args.next.now.at in
     let places = c.places_at-places.result.now in
     let i = length places - 1 in
-    let are : places ≡ places_from 0 walks q = c.places_at-places.ensures ∙ ap (λ (a : FoundWalk). places_from 0 walks a.at) c.next.view_is in
+    let are : places ≡ places_from 0 walks q = c.places_at-places.ensures ∙ ap (λ (a : Link). places_from 0 walks a.at) c.next.view_is in
     let below = read_below walks (arrivals_at walks q) i (get_or places i 0) (read_place walks q places i 0 are (omega (arith, c.if-places-eq0.false))) in
-    let is : c.self.inside.walks.items ≡ walks = ap (λ (s : Listing). s.walks) c.self.view_is in
-    omega (arith, below, ap length is, c.self.inside.walks.ok)
+    omega (arith, below, ap (λ (s : Listing). length s.walks) c.self.view_is)
 
 pub returns : goal.returns
 returns c =
+    let setting = c.args.self.now.setting in
     let walks = c.args.self.now.walks in
     let next = c.args.next.now in
     let found = arrivals_at walks next.at in
     let places = c.places_at-places.result.now in
     let i = length places - 1 in
-    let x = c.index.result.now in
-    let are : places ≡ places_from 0 walks next.at = c.places_at-places.ensures ∙ ap (λ (a : FoundWalk). places_from 0 walks a.at) c.next.view_is in
+    let n = get_or places i 0 in
+    let l = c.at-last.result.now in
+    let x = walk_of setting walks l in
+    let a = walk_of setting walks next in
+    let are : places ≡ places_from 0 walks next.at = c.places_at-places.ensures ∙ ap (λ (v : Link). places_from 0 walks v.at) c.next.view_is in
     let s = read_place walks next.at places i 0 are (omega (arith, c.if-places-eq0.false)) in
-    let here : slice_get found i ≡ Some x = read_walk walks found i (get_or places i 0) s x (subst (λ (s : Listing). x ≡ get_or s.walks (get_or places i 0) x) c.self.view_is c.index.ensures) in
+    let there = subst (λ (v : Listing). slice_get v.walks n ≡ Some (walk_of v.setting v.walks l)) c.self.view_is c.at-last.ensures.exact in
+    let here : slice_get found i ≡ Some x = read_at walks found i n s x there in
     let count : length found ≡ length places = omega (arith, ap length are, places_count 0 walks next.at) in
-    by c.has_edges_of.result c.has_edges_of.ensures (λ same. edges_there found i x next here same) (λ other. last_is found (length places) x next count here other)
+    let told = subst (λ (v : Listing). Told c.have_same_edges.result (edges_told v.setting v.walks l ≡ edges_told v.setting v.walks next) (edges_told v.setting v.walks l ≡ edges_told v.setting v.walks next → ⊥))
+    c.self.view_is c.have_same_edges.ensures in
+    by c.have_same_edges.result told (λ same. edges_there found i x a here same) (λ other. last_is found (length places) x a count here other)
   where
     by : {A B C D : Type 0} (b : Bool) → Told b A B → (A → C) → (B → D) → Told b C D
     by true h f g = f h

@@ -1,0 +1,176 @@
+ghost use Rattle.std.specs.Prelude.{◌≡◌, ◌⊎◌, ◌+◌, ◌^◌, ◌<◌, ◌≤◌, ◌++◌, ◌∷◌, [], ℕ, List, length, slice_get, Some, IfOk, OnErr, OnOk};
+ghost use Rattle.gc_search.specs.Arrivals.{FoundWalk, extended, IsLowAt, Told};
+ghost use Rattle.gc_search.specs.Links.{numbered, walk_of, IsNumber, IsTold, IsWayOf};
+ghost use Rattle.gc_search.specs.Tails.{edges_if, edges_told, tail_edges, IsTail};
+
+use crate::link::Link;
+use crate::tail::{Tail, edge_count};
+use gc_base::Memory;
+use gc_prod::{Move, Pair, Product};
+use std::alloc::Global;
+use std::marker::Model;
+
+// The walks that are settled, in the order in which they were. Each extends an earlier one by a move, and
+// is kept as the number of that one and the move, so walks share their beginnings. Contracts see the
+// product and the walks.
+#[derive(Drop)]
+pub(crate) struct WalkTree<'a> {
+    pub(crate) product: &'a Product<'a>,
+    links: Vec<Link>,
+}
+
+impl<'a> Model for WalkTree<'a> {
+    ghost use Rattle.gc_search.specs.Links.{Walks, IsTree, told};
+
+    ghost Value = { Walks };
+
+    ghost view = { λ t. record { setting = t.product.now; walks = told t.product.now t.links.items } };
+
+    ghost invariant = { λ t. IsTree t.product.now t.links.items };
+}
+
+impl<'a> WalkTree<'a> {
+    // No walk is settled.
+    pub(crate) fn of(alloc: Global, product: &'a Product<'a>) -> WalkTree<'a>
+        ensures { result ≡ record { setting = product.now; walks = [] } }
+    {
+        WalkTree {
+            product,
+            links: Vec::new(alloc),
+        }
+    }
+
+    // How many walks are settled.
+    pub(crate) fn count(&self) -> usize
+        ensures exact { result ≡ length self.now.walks }
+        ensures few { result < 2 ^ 63 }
+    {
+        self.links.len()
+    }
+
+    // The walk at a place, as it is told by an earlier one.
+    pub(crate) fn at(&self, place: usize) -> &Link
+        requires { place < length self.now.walks }
+        ensures exact { slice_get self.now.walks place ≡ Some (walk_of self.now.setting self.now.walks result.now) }
+        ensures told { IsTold self.now.setting self.now.walks result.now }
+        ensures earlier { result.now.before ≤ place }
+    {
+        &self.links[place]
+    }
+
+    // Settles a walk behind the others.
+    pub(crate) fn push(&mut self, next: Link) -> Result<(), Memory>
+        requires { IsTold self.old.setting self.old.walks next }
+        ensures ok { OnOk result (self.new ≡ record self.old { walks = self.old.walks ++ walk_of self.old.setting self.old.walks next ∷ [] }) }
+        ensures err { OnErr result (self.new ≡ self.old) }
+    {
+        self.links.push(next)?;
+        Ok(())
+    }
+
+    // Takes the last walk away, if there is one.
+    pub(crate) fn pop(&mut self)
+        ensures setting { self.new.setting ≡ self.old.setting }
+        ensures walks { (walks : List FoundWalk) (a : FoundWalk) → self.old.walks ≡ walks ++ a ∷ [] → self.new.walks ≡ walks }
+    {
+        self.links.pop();
+    }
+
+    // The walk at a place, and a move behind it. A walk of 2^64 edges has no room in memory.
+    pub(crate) fn extended(&self, place: usize, by: Move) -> Result<Link, Memory>
+        requires within { place < length self.now.walks }
+        requires low { IsLowAt self.now.walks place }
+        ensures exact { IfOk result (λ longer. (a : FoundWalk) → slice_get self.now.walks place ≡ Some a
+            → walk_of self.now.setting self.now.walks longer ≡ extended self.now.setting a by) }
+        ensures told { IfOk result (IsTold self.now.setting self.now.walks) }
+        ensures small { by.cost < 2 ^ 64 }
+    {
+        let _few = self.count();
+        let last = *self.at(place);
+        let Some(edges) = last.edges.checked_add(edge_count(self.product, by.by)) else {
+            return Err(Memory);
+        };
+        Ok(Link {
+            at: Pair {
+                node: by.node,
+                state: by.state,
+            },
+            cost: last.cost + u128::from(by.cost),
+            edges,
+            before: place + 1,
+            by: by.by,
+        })
+    }
+
+    // The whole of a walk: all edges of the move by which it extends a settled one.
+    pub(crate) fn tail(&self, link: &Link) -> Tail
+        ensures edges { tail_edges self.now.setting self.now.walks result ≡ edges_told self.now.setting self.now.walks link.now }
+        ensures is { IsTail self.now.setting self.now.walks result }
+        ensures earlier { result.before ≤ link.now.before }
+    {
+        if self.has(link.before) {
+            Tail {
+                before: link.before,
+                by: link.by,
+                left: edge_count(self.product, link.by),
+            }
+        } else {
+            Tail {
+                before: 0,
+                by: link.by,
+                left: 0,
+            }
+        }
+    }
+
+    // Whether a settled walk has a number.
+    fn has(&self, number: usize) -> bool
+        ensures { Told result (IsNumber self.now.walks number) ((number ≡ 0) ⊎ (length self.now.walks < number)) }
+    {
+        number > 0 && number <= self.links.len()
+    }
+
+    // The whole of the settled walk of a number above 0.
+    pub(crate) fn opened(&self, number: usize) -> Tail
+        requires { IsNumber self.now.walks number }
+        ensures edges { tail_edges self.now.setting self.now.walks result ≡ edges_if (numbered self.now.walks number) }
+        ensures is { IsTail self.now.setting self.now.walks result }
+        ensures earlier { result.before < number }
+    {
+        self.tail(self.at(number - 1))
+    }
+
+    // How many edges the beginning of a walk has.
+    pub(crate) fn length_of(&self, tail: &Tail) -> u128
+        requires { IsTail self.now.setting self.now.walks tail.now }
+        ensures { result ≡ length (tail_edges self.now.setting self.now.walks tail.now) }
+    {
+        self.edges_before(tail.before) as u128 + tail.left as u128
+    }
+
+    // How many edges the settled walk of a number has, or none where the number is 0.
+    fn edges_before(&self, number: usize) -> usize
+        requires { number ≤ length self.now.walks }
+        ensures { result ≡ length (edges_if (numbered self.now.walks number)) }
+    {
+        if number == 0 {
+            0
+        } else {
+            self.at(number - 1).edges
+        }
+    }
+
+    // The moves of the walk at a place, the last first, each with the walk that it leads to.
+    pub(crate) fn way(&self, place: usize) -> Result<Vec<Link>, Memory>
+        requires { place < length self.now.walks }
+        ensures { IfOk result (λ way. IsWayOf self.now place way.items) }
+    {
+        let mut way = Vec::new(*self.links.allocator());
+        let mut link = *self.at(place);
+        while link.before > 0 {
+            way.push(link)?;
+            link = *self.at(link.before - 1);
+        }
+        Ok(way)
+    }
+}
