@@ -1,4 +1,4 @@
--- A kept instance that has a variable is one of a chain in which the variable stands.
+-- A kept instance that has a variable is one of a chain in which the variable stands; one that has a walk stores or projects its path.
 use Rattle.std.proofs.Common.{◌≡◌, ℕ, ◌==◌, ◌&&◌, ◌||◌, Bool, true, false, cond, List, [], ◌∷◌, ◌++◌, map, refl, sym, ap, ◌∙◌}
 use Rattle.std.proofs.lemmas.List.Elements.{filter-append}
 use Rattle.std.proofs.lemmas.List.Folds.{list_any-append}
@@ -6,7 +6,8 @@ use Rattle.std.specs.List.{filter, list_any}
 use Rattle.gc_base.specs.declared.place.Sym.{Sym}
 use Rattle.gc_rows.specs.Rows.{lists}
 use Rattle.gc_build.specs.Kept.{Kept, has_instance, is_kept}
-use Rattle.gc_build.specs.Standing.{Standing, has_kept, standing, standing_in}
+use Rattle.gc_build.specs.Standing.{Standing, has_kept, projected, projected_in, standing, standing_in}
+use Rattle.gc_build.specs.Walks.{has_walk}
 
 once : (b rest : Bool) (kept : Bool) → rest ≡ (b && kept) → (kept || rest) ≡ kept
 once true rest true h = refl
@@ -39,3 +40,35 @@ module _ (place : ℕ) (x : Sym) where
       ap (has_kept place) (filter-append (of_x x) (standing_in k) (standing kept))
       ∙ list_any-append (λ (s : Standing). is_kept place s.kept) (filter (of_x x) (standing_in k)) (filter (of_x x) (standing kept))
       ∙ (λ i. in_places k k.places i || instances_of kept i)
+
+  abbrev has_projected : List Kept → Bool
+  has_projected kept = list_any (λ k. lists k.projected x && is_kept place k) kept
+
+  projected_has : (kept : List Kept) → has_kept place (filter (λ s. s.var.0 == x.0) (projected kept)) ≡ has_projected kept
+  projected_has [] = refl
+  projected_has (k ∷ kept) =
+      ap (has_kept place) (filter-append (of_x x) (projected_in k) (projected kept))
+      ∙ list_any-append (λ (s : Standing). is_kept place s.kept) (filter (of_x x) (projected_in k)) (filter (of_x x) (projected kept))
+      ∙ (λ i. in_places k k.projected i || projected_has kept i)
+
+  -- an instance that has a walk stores its path, or projects it
+  either : (a b kept first second : Bool) → (((a && kept) || first) || ((b && kept) || second)) ≡ (((a || b) && kept) || (first || second))
+  either true true true first second = refl
+  either true false true first second = refl
+  either false true true true second = refl
+  either false true true false second = refl
+  either false false true first second = refl
+  either true true false first second = refl
+  either true false false first second = refl
+  either false true false first second = refl
+  either false false false first second = refl
+
+  walk_of : (kept : List Kept) → (has_instance kept x place || has_projected kept) ≡ has_walk kept x place
+  walk_of [] = refl
+  walk_of (k ∷ kept) =
+      either (lists k.places x) (lists k.projected x) (is_kept place k) (has_instance kept x place) (has_projected kept)
+      ∙ ap (λ b. ((lists k.places x || lists k.projected x) && is_kept place k) || b) (walk_of kept)
+
+  pub walks_of_path : (kept : List Kept)
+      → (has_kept place (filter (λ s. s.var.0 == x.0) (standing kept)) || has_kept place (filter (λ s. s.var.0 == x.0) (projected kept))) ≡ has_walk kept x place
+  walks_of_path kept = (λ i. instances_of kept i || projected_has kept i) ∙ walk_of kept

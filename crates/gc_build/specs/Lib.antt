@@ -10,4 +10,5 @@ pub mod Names
 pub mod Passed
 pub mod Patterns
 pub mod Standing
+pub mod Walking
 pub mod Walks

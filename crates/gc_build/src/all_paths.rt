@@ -10,11 +10,11 @@ ghost use Rattle.gc_build.specs.AllPaths.{AreParts, AreReady, IsSearchable, Lies
 ghost use Rattle.gc_build.specs.Passed.{ArePassed};
 ghost use Rattle.gc_build.specs.Patterns.{plain};
 
-use crate::kept::Kept;
 use crate::listed::{ascending, is_listed};
 use crate::making::Making;
 use crate::patterns::{Patterns, all_atom};
 use crate::spans::{Span, each_once, spans_of};
+use crate::standing::Instances;
 use gc_alg::{Atom, AtomWhat};
 use gc_base::{Id, Memory, Sequence, Steps, Sym};
 use gc_prod::{Product, SegmentTable};
@@ -36,7 +36,7 @@ pub(crate) struct AllParts {
 pub(crate) fn all_parts<L: Ledger>(
     making: &Making<'_>,
     patterns: &Patterns<'_>,
-    kept: &[Kept<'_>],
+    kept: &Instances<'_>,
     paths: &[Sym],
     steps: &mut Steps<L>,
 ) -> Result<Vec<AllParts>, Memory>
@@ -56,7 +56,7 @@ pub(crate) fn all_parts<L: Ledger>(
 fn parts_of<L: Ledger>(
     making: &Making<'_>,
     patterns: &Patterns<'_>,
-    kept: &[Kept<'_>],
+    kept: &Instances<'_>,
     path: Sym,
     steps: &mut Steps<L>,
 ) -> Result<AllParts, Memory>

@@ -11,7 +11,7 @@ use crate::graphs::{Part, add_graphs, add_walks};
 use crate::kept::{Kept, kept_instances};
 use crate::making::Making;
 use crate::patterns::Patterns;
-use crate::standing::{Instances, places_of};
+use crate::standing::{Instances, places_of, projected_of};
 use crate::walks::OnWalk;
 use gc_base::{Memory, Steps, Sym};
 use gc_build_recipe::{Chain, Variable};
@@ -37,9 +37,10 @@ pub(crate) fn claims<L: Ledger>(
     let kept = kept_instances(making, chains, steps)?;
     let setting = making.setting;
     let paths = walked(setting.alloc, &kept, making.variables.as_slice())?;
-    let parts = all_parts(making, patterns, &kept, &paths, steps)?;
     let found = places_of(setting.alloc, &kept)?;
-    let instances = Instances::of(setting.alloc, &kept, &found)?;
+    let projected = projected_of(setting.alloc, &kept)?;
+    let instances = Instances::of(setting.alloc, &kept, &found, &projected)?;
+    let parts = all_parts(making, patterns, &instances, &paths, steps)?;
     claims_with(making, &instances, &parts, graphs, steps)
 }
 
@@ -74,7 +75,7 @@ fn all_claimed<T: Claim + Part + OnWalk + Drop, L: Ledger>(
         ++ in_items making.now.setting.graphs graphs.now T.all) }
 {
     let mut claimed = claimed_by(making, kept, steps)?;
-    add_all_walks(&mut claimed, making, kept.all, parts, steps)?;
+    add_all_walks(&mut claimed, making, kept, parts, steps)?;
     add_graphs(&mut claimed, making, graphs, steps)?;
     Ok(claimed)
 }
@@ -115,7 +116,7 @@ fn claimed_by<T: Claim + Drop, L: Ledger>(
 fn add_all_walks<T: Part + OnWalk + Drop, L: Ledger>(
     claimed: &mut Vec<T>,
     making: &Making<'_>,
-    kept: &[Kept<'_>],
+    kept: &Instances<'_>,
     parts: &[AllParts],
     steps: &mut Steps<L>,
 ) -> Result<(), Memory>

@@ -16,7 +16,7 @@ use crate::patterns::Patterns;
 use gc_alg::Block;
 use gc_base::{Memory, Steps};
 use gc_build_descriptions::{DescribedList, Refusal as DescribeRefusal, describe};
-use gc_build_numbers::{Numbering, Setting, number};
+use gc_build_numbers::{Numbering, ReadGraphs, Setting, number};
 use gc_build_recipe::Recipe;
 use gc_prod::SegmentTable;
 use gc_sets::unite_agreed;
@@ -116,8 +116,10 @@ fn claimed<L: Ledger>(
     ensures { IfOk result (λ claims. AreClaims (plain patterns.now) (making_by setting.now recipe.now next numbering.now.variables described.now)
         recipe.now.chains recipe.now.graphs (seen claims)) }
 {
+    let reads = ReadGraphs::of(setting)?;
     let making = Making {
         setting,
+        reads: &reads,
         variables: &recipe.variables,
         numbered: &numbering.variables,
         described,

@@ -8,9 +8,9 @@ ghost use Rattle.gc_build.specs.Claimed.{in_graph, in_items};
 ghost use Rattle.gc_build.specs.Walks.{along_graph, of_ids, walks_of};
 
 use crate::all_paths::AllParts;
-use crate::kept::Kept;
 use crate::listed::{ascending, is_listed};
 use crate::making::Making;
+use crate::standing::Instances;
 use crate::walks::{OnWalk, ids_on_walks};
 use gc_base::{Duplicate, Id, Memory, Steps};
 use gc_ppg::{EdgeInfo, Graph, NodeInfo, PathInfo};
@@ -147,7 +147,7 @@ fn add_copy<T: Part + Drop>(claimed: &mut Vec<T>, element: &T) -> Result<(), Mem
 pub(crate) fn add_walks<T: Part + OnWalk + Drop, L: Ledger>(
     claimed: &mut Vec<T>,
     making: &Making<'_>,
-    kept: &[Kept<'_>],
+    kept: &Instances<'_>,
     parts: &AllParts,
     steps: &mut Steps<L>,
 ) -> Result<(), Memory>

@@ -1,17 +1,15 @@
-ghost use Rattle.std.specs.Prelude.{◌≡◌, ◌&&◌, ◌||◌, IfOk, map};
+ghost use Rattle.std.specs.Prelude.{◌≡◌, IfOk, map};
 ghost use Rattle.std.specs.Option.{option_copied};
 ghost use Rattle.gc_build.specs.Kept.{is_kept, kept_from, kept_of};
 ghost use Rattle.gc_build.specs.Makers.{maker_of};
 ghost use Rattle.gc_build.specs.Names.{named_by};
-ghost use Rattle.gc_build.specs.Walks.{has_walk};
-ghost use Rattle.gc_rows.specs.Rows.{lists};
 
 use crate::instances::{keeps, makers, named_by};
 use crate::making::Making;
-use gc_base::{Memory, Steps, Sym};
+use gc_base::{Memory, Steps};
 use gc_build_numbers::Numbered;
 use gc_build_recipe::{Chain, Variable};
-use gc_rows::{SymList, is_listed};
+use gc_rows::SymList;
 use std::marker::Model;
 use std::sync::ledger::Ledger;
 
@@ -41,15 +39,6 @@ impl Kept<'_> {
             None => false,
             Some(kept) => *kept,
         }
-    }
-
-    // Whether it is, and has the walk of a path, which it stores or projects.
-    fn has_walk(&self, path: Sym, place: usize) -> bool
-        ensures { result ≡ ((lists self.now.places path || lists self.now.projected path) && is_kept place self.now) }
-    {
-        let has_path = is_listed(self.places.as_slice(), path)
-            || is_listed(self.projected.as_slice(), path);
-        has_path && self.is_kept(place)
     }
 }
 
@@ -106,11 +95,4 @@ fn kept_rows<L: Ledger>(
         kept.push(keeps(making, chain, makers, named, place, row, steps)?)?;
     }
     Ok(kept)
-}
-
-/// Whether an instance on the row at a place is kept that has the walk of a path.
-pub(crate) fn has_walk(kept: &[Kept<'_>], path: Sym, place: usize) -> bool
-    ensures { result ≡ has_walk kept.now path place }
-{
-    kept.iter().any(|one| one.has_walk(path, place))
 }

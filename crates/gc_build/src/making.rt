@@ -9,16 +9,16 @@ ghost use Rattle.gc_build.specs.Walks.{along_graph, read_graph};
 
 use gc_base::{Id, Memory, Sym};
 use gc_build_descriptions::{DescribedList, Description};
-use gc_build_numbers::{Element, Numbered, NumberedList, Setting};
+use gc_build_numbers::{Element, Numbered, NumberedList, ReadGraphs, Setting};
 use gc_build_recipe::{Grouping, Variable, VariableList};
 use gc_ppg::Graph;
-use gc_values::{own_graph, walk_graph};
 use std::marker::Model;
 
 /// What is read, the variables of a CONSTRUCT, their elements with descriptions, and the next identity.
 #[derive(Drop)]
 pub(crate) struct Making<'a> {
     pub setting: &'a Setting<'a>,
+    pub reads: &'a ReadGraphs<'a>,
     pub variables: &'a VariableList,
     pub numbered: &'a NumberedList,
     pub described: &'a DescribedList,
@@ -37,6 +37,11 @@ impl<'a> Model for Making<'a> {
       described = m.described.now;
       next = m.next;
     } };
+
+    ghost use Rattle.std.specs.Prelude.{◌≡◌};
+    ghost use Rattle.gc_build_numbers.specs.Settings.{read_graphs};
+
+    ghost invariant = { λ m. m.reads.now ≡ read_graphs m.setting.now };
 }
 
 impl Making<'_> {
@@ -150,16 +155,14 @@ impl Making<'_> {
     pub(crate) fn read_graph(&self, var: Sym) -> Option<&Graph>
         ensures { option_copied result ≡ read_graph self.now.setting var }
     {
-        let setting = self.setting;
-        own_graph(setting.reads, setting.graphs, var)
+        self.reads.own_graph(var)
     }
 
     /// The graph in which the elements on a variable's walk are read, if it has one.
     pub(crate) fn along_graph(&self, var: Sym) -> Option<&Graph>
         ensures { option_copied result ≡ along_graph self.now.setting var }
     {
-        let setting = self.setting;
-        walk_graph(setting.reads, setting.graphs, var)
+        self.reads.walk_graph(var)
     }
 
     /// The graph of a number.

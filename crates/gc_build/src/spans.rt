@@ -3,8 +3,8 @@ ghost use Rattle.std.specs.Option.{option_copied};
 ghost use Rattle.gc_rows.specs.Tables.{HasExactly};
 ghost use Rattle.gc_build.specs.AllPaths.{span_of, spans_of};
 
-use crate::kept::{Kept, has_walk};
 use crate::making::Making;
+use crate::standing::{Instances, has_walk};
 use gc_base::{Id, Memory, Sym};
 use gc_rows::Datum;
 
@@ -18,16 +18,17 @@ pub(crate) struct Span {
 /// The spans for which a path stands in kept instances, in the order of the rows.
 pub(crate) fn spans_of(
     making: &Making<'_>,
-    kept: &[Kept<'_>],
+    kept: &Instances<'_>,
     path: Sym,
 ) -> Result<Vec<Span>, Memory>
     ensures { IfOk result (λ spans. spans.items ≡ spans_of making.now kept.now path) }
 {
     let setting = making.setting;
     let rows = setting.table.rows().as_slice();
+    let own = kept.of_path(path);
     let mut spans = Vec::new(setting.alloc);
     for (place, row) in rows.iter().enumerate() {
-        if has_walk(kept, path, place) {
+        if has_walk(kept, path, own, place) {
             add_span(&mut spans, row.get(path))?;
         }
     }

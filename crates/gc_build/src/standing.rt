@@ -2,7 +2,9 @@ ghost use Rattle.std.specs.Prelude.{◌≡◌, ◌++◌, ℕ, IfOk, OnOk};
 ghost use Rattle.std.specs.List.{list_any};
 ghost use Rattle.std.specs.Option.{option_copied};
 ghost use Rattle.gc_build.specs.Kept.{has_instance, is_claimed};
-ghost use Rattle.gc_build.specs.Standing.{has_kept, standing, standing_in};
+ghost use Rattle.gc_build.specs.Standing.{has_kept, projected, standing, standing_as};
+ghost use Rattle.gc_build.specs.Walking.{has_either};
+ghost use Rattle.gc_build.specs.Walks.{has_walk};
 ghost use Rattle.gc_build_recipe.specs.Places.{listed};
 
 use crate::kept::Kept;
@@ -12,7 +14,7 @@ use gc_build_recipe::{Grouped, OfVariable};
 use std::alloc::Global;
 use std::marker::Model;
 
-/// A variable at a place of a chain, with the instances of the chain.
+/// A variable at a place of a chain, or a path that a chain projects, with the instances of the chain.
 #[derive(Drop)]
 pub(crate) struct Standing<'a> {
     var: Sym,
@@ -44,16 +46,34 @@ pub(crate) fn places_of<'a>(
 {
     let mut found = Vec::new(alloc);
     for one in kept {
-        add_places(&mut found, one)?;
+        add_variables(&mut found, one, one.places.as_slice())?;
     }
     Ok(found)
 }
 
-// Adds the variables at the places of a chain.
-fn add_places<'a>(found: &mut Vec<Standing<'a>>, kept: &'a Kept<'a>) -> Result<(), Memory>
-    ensures { OnOk result (found.new.items ≡ found.old.items ++ standing_in kept.now) }
+/// The paths that chains with these instances project, in the order of the chains.
+pub(crate) fn projected_of<'a>(
+    alloc: Global,
+    kept: &'a [Kept<'a>],
+) -> Result<Vec<Standing<'a>>, Memory>
+    ensures { IfOk result (λ found. found.items ≡ projected kept.now) }
 {
-    for var in kept.places.as_slice() {
+    let mut found = Vec::new(alloc);
+    for one in kept {
+        add_variables(&mut found, one, one.projected.as_slice())?;
+    }
+    Ok(found)
+}
+
+// Adds variables of a chain.
+fn add_variables<'a>(
+    found: &mut Vec<Standing<'a>>,
+    kept: &'a Kept<'a>,
+    variables: &[Sym],
+) -> Result<(), Memory>
+    ensures { OnOk result (found.new.items ≡ found.old.items ++ standing_as kept.now variables.now) }
+{
+    for var in variables {
         found.push(Standing { var: *var, kept })?;
     }
     Ok(())
@@ -65,32 +85,47 @@ fn add_places<'a>(found: &mut Vec<Standing<'a>>, kept: &'a Kept<'a>) -> Result<(
 pub(crate) struct Instances<'a> {
     pub all: &'a [Kept<'a>],
     by_variable: Grouped<'a, Standing<'a>>,
+    by_path: Grouped<'a, Standing<'a>>,
+}
+
+/// The instances of the chains that have the walk of a path: those that store it, and those that project it.
+#[derive(Clone, Copy)]
+pub(crate) struct Walking<'a> {
+    stored: Option<&'a Vec<&'a Standing<'a>>>,
+    projected: Option<&'a Vec<&'a Standing<'a>>>,
 }
 
 impl<'a> Model for Instances<'a> {
     ghost use Rattle.std.specs.Prelude.{◌≡◌, List};
     ghost use Rattle.gc_build.specs.Kept.{Kept};
-    ghost use Rattle.gc_build.specs.Standing.{standing};
+    ghost use Rattle.gc_build.specs.Standing.{projected, standing};
 
     ghost Value = { List Kept };
 
     ghost view = { λ i. i.all.now };
 
-    ghost invariant = { λ i. i.by_variable ≡ standing i.all.now };
+    ghost invariant = { λ i. (i.by_variable ≡ standing i.all.now) × (i.by_path ≡ projected i.all.now) };
 }
 
 impl<'a> Instances<'a> {
-    /// These instances, where this stands in their chains.
+    /// These instances, where this stands at the places of their chains, and these paths are projected.
     pub(crate) fn of(
         alloc: Global,
         all: &'a [Kept<'a>],
         found: &'a [Standing<'a>],
+        paths: &'a [Standing<'a>],
     ) -> Result<Instances<'a>, Memory>
-        requires { found.now ≡ standing all.now }
+        requires places { found.now ≡ standing all.now }
+        requires paths { paths.now ≡ projected all.now }
         ensures { IfOk result (λ instances. instances ≡ all.now) }
     {
         let by_variable = Grouped::of(alloc, found)?;
-        Ok(Instances { all, by_variable })
+        let by_path = Grouped::of(alloc, paths)?;
+        Ok(Instances {
+            all,
+            by_variable,
+            by_path,
+        })
     }
 
     /// Those of the chains that have a variable.
@@ -99,6 +134,32 @@ impl<'a> Instances<'a> {
     {
         self.by_variable.of_variable(var)
     }
+
+    /// Those of the chains that have the walk of a path.
+    pub(crate) fn of_path(&self, path: Sym) -> Walking<'_>
+        ensures { (place : ℕ) → has_either place result ≡ has_walk self.now path place }
+    {
+        Walking {
+            stored: self.by_variable.of_variable(path),
+            projected: self.by_path.of_variable(path),
+        }
+    }
+}
+
+/// Whether an instance on the row at a place is kept that has the walk of a path, where these are the
+/// instances of the chains that have it.
+pub(crate) fn has_walk(kept: &Instances<'_>, path: Sym, own: Walking<'_>, place: usize) -> bool
+    requires { (row : ℕ) → has_either row own ≡ has_walk kept.now path row }
+    ensures { result ≡ has_walk kept.now path place }
+{
+    has_either(own, place)
+}
+
+// Whether one of these instances is kept on the row at a place.
+fn has_either(own: Walking<'_>, place: usize) -> bool
+    ensures { result ≡ has_either place own.entry }
+{
+    has_kept(own.stored, place) || has_kept(own.projected, place)
 }
 
 /// Whether an instance is kept that has an element of a variable, where these are the instances of the

@@ -9,9 +9,9 @@ ghost use Rattle.gc_build.specs.declared.all_paths.AllParts.{AllParts as AllPart
 ghost use Rattle.gc_build.specs.Walks.{read_graph, walk_if, walks_from, walks_of};
 
 use crate::all_paths::AllParts;
-use crate::kept::{Kept, has_walk};
 use crate::making::Making;
 use crate::paths::stored_walk;
+use crate::standing::{Instances, has_walk};
 use gc_base::{Id, Memory, Steps, Sym, Walk};
 use gc_ppg::{EdgeInfo, NodeInfo};
 use gc_rows::{Datum, Row};
@@ -72,7 +72,7 @@ impl OnWalk for EdgeInfo {
 /// The identities of what stands on the walks that a path has in kept instances.
 pub(crate) fn ids_on_walks<T: OnWalk, L: Ledger>(
     making: &Making<'_>,
-    kept: &[Kept<'_>],
+    kept: &Instances<'_>,
     path: Sym,
     steps: &mut Steps<L>,
 ) -> Result<Vec<Id>, Memory>
@@ -80,9 +80,10 @@ pub(crate) fn ids_on_walks<T: OnWalk, L: Ledger>(
 {
     let setting = making.setting;
     let rows = setting.table.rows().as_slice();
+    let own = kept.of_path(path);
     let mut ids = Vec::new(setting.alloc);
     for (place, row) in rows.iter().enumerate() {
-        if has_walk(kept, path, place) {
+        if has_walk(kept, path, own, place) {
             add_row::<T, L>(&mut ids, making, path, row, steps)?;
         }
     }

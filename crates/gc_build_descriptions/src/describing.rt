@@ -3,6 +3,7 @@ ghost use Rattle.gc_build_descriptions.specs.Described.{Describes, described, de
 ghost use Rattle.gc_build_descriptions.specs.Faults.{elements_of};
 ghost use Rattle.gc_build_descriptions.specs.Givens.{given};
 ghost use Rattle.gc_build_descriptions.specs.Said.{changed, said_of};
+ghost use Rattle.gc_build_numbers.specs.Settings.{read_graphs};
 
 use crate::changes::{add_labels, give, remove_labels, remove_properties};
 use crate::described::{Described, DescribedList, Description, DescriptionList};
@@ -11,7 +12,7 @@ use crate::givens::{Given, all_given, elements_of};
 use crate::said::{Changes, Said, changes_of, said_by};
 use crate::starts::start_of;
 use gc_base::{Memory, Steps};
-use gc_build_numbers::{Element, Numbering, Setting};
+use gc_build_numbers::{Element, Numbering, ReadGraphs, Setting};
 use gc_build_recipe::{Recipe, Variable};
 use std::sync::ledger::Ledger;
 
@@ -41,10 +42,27 @@ fn all_described<L: Ledger>(
     requires { givens.now ≡ map (given setting.now numbering.now.variables) recipe.now.assignments }
     ensures { IfOk result (λ all. all ≡ map (described_variable setting.now recipe.now numbering.now.variables) recipe.now.variables) }
 {
+    let reads = ReadGraphs::of(setting)?;
     let said = said_by(setting.alloc, recipe, givens)?;
+    each_described(setting, &reads, recipe, &said, numbering, steps)
+}
+
+// The same, where this is said of the variables.
+fn each_described<L: Ledger>(
+    setting: &Setting<'_>,
+    reads: &ReadGraphs<'_>,
+    recipe: &Recipe,
+    said: &Said<'_>,
+    numbering: &Numbering,
+    steps: &mut Steps<L>,
+) -> Result<DescribedList, Memory>
+    requires reads { reads.now ≡ read_graphs setting.now }
+    requires said { said.now ≡ said_of recipe.now (map (given setting.now numbering.now.variables) recipe.now.assignments) }
+    ensures { IfOk result (λ all. all ≡ map (described_variable setting.now recipe.now numbering.now.variables) recipe.now.variables) }
+{
     let mut all = DescribedList::new(setting.alloc);
     for variable in recipe.variables.as_slice() {
-        let descriptions = descriptions(setting, recipe, &said, numbering, variable, steps)?;
+        let descriptions = descriptions(setting, reads, recipe, said, numbering, variable, steps)?;
         all.push(Described {
             var: variable.var,
             descriptions,
@@ -56,20 +74,22 @@ fn all_described<L: Ledger>(
 // The descriptions of the elements of a variable.
 fn descriptions<L: Ledger>(
     setting: &Setting<'_>,
+    reads: &ReadGraphs<'_>,
     recipe: &Recipe,
     said: &Said<'_>,
     numbering: &Numbering,
     variable: &Variable,
     steps: &mut Steps<L>,
 ) -> Result<DescriptionList, Memory>
-    requires { said.now ≡ said_of recipe.now (map (given setting.now numbering.now.variables) recipe.now.assignments) }
+    requires reads { reads.now ≡ read_graphs setting.now }
+    requires said { said.now ≡ said_of recipe.now (map (given setting.now numbering.now.variables) recipe.now.assignments) }
     ensures { IfOk result (λ all. all ≡ map (described setting.now recipe.now variable.now) (elements_of numbering.now.variables variable.now.var)) }
 {
     let mut all = DescriptionList::new(setting.alloc);
     let elements = elements_of(numbering, variable.var);
     let changes = changes_of(said, variable.var);
     for (place, element) in elements.iter().enumerate() {
-        all.push(described_at(setting, variable, place, element, changes, steps)?)?;
+        all.push(described_at(setting, reads, variable, place, element, changes, steps)?)?;
     }
     Ok(all)
 }
@@ -77,17 +97,19 @@ fn descriptions<L: Ledger>(
 // The description of the element at a place among those of a variable, to each of which this is done.
 fn described_at<L: Ledger>(
     setting: &Setting<'_>,
+    reads: &ReadGraphs<'_>,
     variable: &Variable,
     place: usize,
     element: &Element,
     changes: Changes<'_>,
     steps: &mut Steps<L>,
 ) -> Result<Description, Memory>
+    requires { reads.now ≡ read_graphs setting.now }
     ensures { IfOk result (λ d. d ≡ changed place changes.entry (start_of setting.now variable.now.start element.now.group.rows)) }
 {
     let alloc = setting.alloc;
     let rows = element.group.rows.as_slice();
-    let mut description = start_of(setting, variable.start, rows, steps)?;
+    let mut description = start_of(setting, reads, variable.start, rows, steps)?;
     add_labels(&mut description, changes.labels)?;
     give(alloc, &mut description, place, changes.givens)?;
     remove_labels(&mut description, changes.lost_labels);

@@ -2,39 +2,36 @@ ghost use Rattle.std.specs.Prelude.{◌≡◌, slice_get, Some, IfOk};
 ghost use Rattle.std.specs.Option.{option_copied, unwrap_or};
 ghost use Rattle.gc_build_descriptions.specs.Assigned.{row_at};
 ghost use Rattle.gc_build_descriptions.specs.Described.{blank, seen_or_blank, start_of};
+ghost use Rattle.gc_build_numbers.specs.Settings.{read_graphs};
 ghost use Rattle.gc_rows.specs.Rows.{datum_at};
 ghost use Rattle.gc_values.specs.Descriptions.{node_description, edge_description, path_description, described_in};
 
 use crate::assigned::row_at;
 use crate::described::Description;
 use gc_base::{Duplicate, Id, LabelSet, Memory, Properties, Steps, Sym};
-use gc_build_numbers::Setting;
+use gc_build_numbers::{ReadGraphs, Setting};
 use gc_ppg::Graph;
 use gc_rows::Datum;
-use gc_values::own_graph;
 use std::alloc::Global;
 use std::sync::ledger::Ledger;
 
 /// What an element starts with: the labels and properties of this variable on the first of its rows,
-/// or none.
+/// as the variable's graph has them, or none.
 pub(crate) fn start_of<L: Ledger>(
     setting: &Setting<'_>,
+    reads: &ReadGraphs<'_>,
     start: Option<Sym>,
     places: &[u64],
     steps: &mut Steps<L>,
 ) -> Result<Description, Memory>
+    requires { reads.now ≡ read_graphs setting.now }
     ensures { IfOk result (λ d. d ≡ start_of setting.now start places.now) }
 {
     match start {
         None => Ok(blank(setting.alloc)),
         Some(var) => {
             let datum = datum_at(setting, var, first(places));
-            described_in(
-                setting.alloc,
-                own_graph(setting.reads, setting.graphs, var),
-                datum,
-                steps,
-            )
+            described_in(setting.alloc, reads.own_graph(var), datum, steps)
         }
     }
 }

@@ -16,3 +16,11 @@ pub record Setting : Type 0 where
 -- one of the rows, before anything is made
 abbrev pub on_row : Setting → List Binding → Context
 on_row s row = record { row = row; reads = s.reads; graphs = s.graphs; made = [] }
+
+-- the graphs in which variables are read
+pub record ReadGraphs : Type 0 where
+  pub reads : List ReadUse
+  pub graphs : List PropertyGraph
+
+abbrev pub read_graphs : Setting → ReadGraphs
+read_graphs s = record { reads = s.reads; graphs = s.graphs }

@@ -65,7 +65,7 @@ fn search_doc<L: Ledger>(
     let walks = first_walks(asked.alloc, &found, targets)?;
     Ok(SearchDoc {
         expression: expression.0.copy()?,
-        graph: asked.graph.copy()?,
+        graph: asked.graph.copy(steps)?,
         potentials,
         segments: asked.segments.copy()?,
         start: source,

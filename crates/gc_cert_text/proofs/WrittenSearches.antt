@@ -2,15 +2,16 @@
 use Rattle.std.proofs.Common.{◌≡◌, ℕ, ◌+◌, ◌≤◌, true, List, [], ◌∷◌, length, map, Some, Ok, refl, sym, ◌∙◌, arith, nat_le, nat_lt}
 use Rattle.std.proofs.lemmas.Bool.Decides.{nat_tests}
 use Rattle.std.proofs.lemmas.Str.{is_utf8-from_IsUtf8}
-use Rattle.std.specs.List.{AllByRecursion}
+use Rattle.std.specs.List.{AllByRecursion, list_all}
 use Rattle.gc_automata.specs.Moves.{Segment}
 use Rattle.gc_json.specs.CanonicalText.{canonical_text, element_count, graph_data}
 use Rattle.gc_json.specs.FileElements.{Seen}
 use Rattle.gc_json.specs.GraphFiles.{file_graph, graph_of_data}
-use Rattle.gc_json.specs.LoadedAgain.{AgreesWith, EdgeAgrees, NodeAgrees, PathAgrees}
 use Rattle.gc_json.proofs.GraphsReadBack.{read-canonical_text}
 use Rattle.gc_json.proofs.Utf8Texts.{IsUtf8-canonical_text}
+use Rattle.gc_ppg.specs.Shapes.{graph_agrees}
 use Rattle.gc_prod.specs.Segments.{AreSegments}
+use Rattle.gc_spec.specs.Coherence.{shapes_of}
 use Rattle.gc_spec.specs.PropertyGraph.{IsGraph, PropertyGraph}
 use Rattle.serde_json.specs.View.{items_of}
 use Rattle.gc_cert_text.specs.Certificates.{SearchTold, certificate_of, search_of, searches_from}
@@ -25,20 +26,16 @@ use Rattle.gc_cert_text.proofs.WrittenTexts.{value_back}
 
 -- what canonical texts are loaded as
 abbrev pub LoadBack : Type 0
-LoadBack = (seen : Seen) (g : PropertyGraph) → IsGraph g → element_count g ≤ 1000000 → AgreesWith seen g → file_graph seen (canonical_text g) ≡ Ok g
+LoadBack = (seen : Seen) (g : PropertyGraph) → IsGraph g → element_count g ≤ 1000000 → graph_agrees seen g ≡ true → file_graph seen (canonical_text g) ≡ Ok g
 
 -- ---- a graph stands beside no other
 
-all_agree : {X : Type 0} (P : X → Type 0) → ((x : X) → P x) → (xs : List X) → AllByRecursion P xs
-all_agree P each [] = tt
-all_agree P each (x ∷ xs) = (each x, all_agree P each xs)
+all_agree : {X : Type 0} (xs : List X) → list_all (λ _. true) xs ≡ true
+all_agree [] = refl
+all_agree (x ∷ xs) = all_agree xs
 
-none_seen : (g : PropertyGraph) → AgreesWith [] g
-none_seen g = record {
-  nodes = all_agree (NodeAgrees []) (λ n. refl) g.nodes;
-  edges = all_agree (EdgeAgrees []) (λ e. refl) g.edges;
-  paths = all_agree (PathAgrees []) (λ p. refl) g.paths;
-}
+none_seen : (g : PropertyGraph) → graph_agrees [] g ≡ true
+none_seen g = all_agree (shapes_of g)
 
 graph_back : LoadBack → (g : PropertyGraph) → IsGraph g → element_count g ≤ 1000000 → graph_of_data [] (graph_data g) ≡ Ok g
 graph_back load g h few =

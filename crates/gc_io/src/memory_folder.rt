@@ -1,4 +1,4 @@
-ghost use Rattle.std.specs.Prelude.{◌≡◌, ◌≤◌, Some, length, take, drop, min, ◌-◌, IfOk, IfErr, OnOk};
+ghost use Rattle.std.specs.Prelude.{◌≡◌, ◌≤◌, Some, length, take, drop, min, ◌-◌, IfOk, IfErr, OnOk, OnErr};
 ghost use Rattle.gc_base.specs.Faults.{Rose};
 ghost use Rattle.gc_base.specs.Files.{IsRead, IsReadOf, file_of};
 ghost use Rattle.gc_io.specs.Causes.{HasCause};
@@ -55,6 +55,7 @@ impl Folder for MemoryFolder {
     fn read_at(&mut self, name: &str, at: u64, into: &mut [u8]) -> Result<usize, FolderFault>
         ensures count { IfOk result (λ n. n ≤ length into.new) }
         ensures bytes { IfOk result (λ n. IsReadOf (Some self.old.files) name.now at n into.new) }
+        ensures unread { OnErr result (into.new ≡ into.old) }
         ensures cause { IfErr result (HasCause (Some self.old.files) name.now self.old.faults self.new.faults) }
         ensures calm { OnOk result (self.new.faults ≡ self.old.faults) }
         ensures later { self.old.faults ≤ self.new.faults }
@@ -102,6 +103,7 @@ impl Folder for SureFolder {
     fn read_at(&mut self, name: &str, at: u64, into: &mut [u8]) -> Result<usize, FolderFault>
         ensures count { IfOk result (λ n. n ≤ length into.new) }
         ensures bytes { IfOk result (λ n. IsReadOf (Some self.old) name.now at n into.new) }
+        ensures unread { OnErr result (into.new ≡ into.old) }
         ensures cause { IfErr result (HasCause (Some self.old) name.now 0 0) }
         ensures kept { self.new ≡ self.old }
         ensures exactly { result ≡ read_count (file_of self.old name.now) at (length into.old) }
@@ -114,6 +116,7 @@ impl Folder for SureFolder {
 fn read_listed(files: &FileList, name: &str, at: u64, into: &mut [u8]) -> Result<usize, FolderFault>
     ensures count { IfOk result (λ n. n ≤ length into.new) }
     ensures bytes { IfOk result (λ n. IsReadOf (Some files.now) name.now at n into.new) }
+    ensures unread { OnErr result (into.new ≡ into.old) }
     ensures exactly { result ≡ read_count (file_of files.now name.now) at (length into.old) }
 {
     match find_file(files, name) {

@@ -1,6 +1,7 @@
 -- The members in order, a turn at a time, and the object that they make.
 use Rattle.std.proofs.Common.{◌≡◌, ℕ, zero, suc, ◌-◌, ◌<◌, ◌≤◌, List, [], ◌∷◌, length, Option, Some, None, option_map, option_and_then, Bool, true, false, bytes_eq, if◌then◌else◌, refl, sym, subst, ap, ◌∙◌, true≢false, nat_le, arith}
 use Rattle.std.specs.Prelude.{⊤}
+use Rattle.std.specs.Option.{option_or}
 use Rattle.std.proofs.lemmas.Bool.Decides.{nat_tests}
 use Rattle.std.proofs.lemmas.Slice.Eq.{bytes_eq-Decides}
 use Rattle.json.specs.Token.{Token}
@@ -117,35 +118,65 @@ module _ (k : List ℕ) where
   get_one found l d true e = let same : l ≡ k = (bytes_eq-Decides l k).0 e in subst (λ x. get_member k (put x d found) ≡ Some d) (sym same) (get_member-put k d found)
   get_one found l d false e = get_member-put_other k l d found (λ same. true≢false (sym ((bytes_eq-Decides l k).1 (sym same)) ∙ e))
 
-  pub get_member-puts : (es : Entries) (found : Members) → get_member k (puts found es) ≡ last_at k (get_member k found) es
-  get_member-puts [] found = refl
-  get_member-puts (e ∷ es) found = get_member-puts es (put e.0 e.1 found) ∙ ap (λ o. last_at k o es) (get_one found e.0 e.1 (bytes_eq e.0 k) refl)
+  or_none : (o : Option Data) → option_or o None ≡ o
+  or_none None = refl
+  or_none (Some d) = refl
 
-  none_counted_by : (e : List ℕ × Data) (es : Entries) (old : Option Data) (b : Bool) → bytes_eq e.0 k ≡ b → ((o : Option Data) → count_of k es ≡ 0 → last_at k o es ≡ o)
-      → (if b then suc (count_of k es) else count_of k es) ≡ 0 → last_at k (if b then Some e.1 else old) es ≡ old
-  none_counted_by e es old true is later h = absurd (omega arith)
-  none_counted_by e es old false is later h = later old h
+  or_else : (o : Option Data) (b : Bool) (d : Data) (old : Option Data) → option_or o (if b then Some d else old) ≡ option_or (option_or o (if b then Some d else None)) old
+  or_else (Some x) b d old = refl
+  or_else None true d old = refl
+  or_else None false d old = refl
 
-  pub none_counted : (es : Entries) (old : Option Data) → count_of k es ≡ 0 → last_at k old es ≡ old
-  none_counted [] old h = refl
-  none_counted (e ∷ es) old h = none_counted_by e es old (bytes_eq e.0 k) refl (λ o z. none_counted es o z) h
+  get_member-puts_among : (es : Entries) (found : Members) → get_member k (puts found es) ≡ option_or (last_at k es) (get_member k found)
+  get_member-puts_among [] found = refl
+  get_member-puts_among (e ∷ es) found =
+      get_member-puts_among es (put e.0 e.1 found)
+      ∙ ap (λ o. option_or (last_at k es) o) (get_one found e.0 e.1 (bytes_eq e.0 k) refl)
+      ∙ or_else (last_at k es) (bytes_eq e.0 k) e.1 (get_member k found)
 
-  last_time : (es : Entries) (d : Data) (c : ℕ) → count_of k es ≡ c
-      → ((m : ℕ) (o : Option Data) → count_of k es ≡ m → 0 < m → nth_at k m es ≡ last_at k o es)
-      → (if nat_le (suc c) 1 then Some d else nth_at k (suc c - 1) es) ≡ last_at k (Some d) es
-  last_time es d zero is later = sym (none_counted es (Some d) is)
-  last_time es d (suc m) is later = rw (later_time m) (rw (fewer (suc m)) (later (suc m) (Some d) is (omega arith)))
+  pub get_member-puts : (es : Entries) → get_member k (puts no_members es) ≡ last_at k es
+  get_member-puts es = get_member-puts_among es no_members ∙ or_none (last_at k es)
 
-  counted_by : (e : List ℕ × Data) (es : Entries) (n : ℕ) (old : Option Data) (b : Bool)
-      → ((m : ℕ) (o : Option Data) → count_of k es ≡ m → 0 < m → nth_at k m es ≡ last_at k o es)
+  none_counted_by : (e : List ℕ × Data) (es : Entries) (b : Bool) → (count_of k es ≡ 0 → last_at k es ≡ None) → (if b then suc (count_of k es) else count_of k es) ≡ 0
+      → option_or (last_at k es) (if b then Some e.1 else None) ≡ None
+  none_counted_by e es true later h = absurd (omega arith)
+  none_counted_by e es false later h = ap (λ o. option_or o None) (later h)
+
+  pub none_counted : (es : Entries) → count_of k es ≡ 0 → last_at k es ≡ None
+  none_counted [] h = refl
+  none_counted (e ∷ es) h = none_counted_by e es (bytes_eq e.0 k) (none_counted es) h
+
+  or_some : (o : Option Data) (d : Data) (p : Option Data) → option_or (option_or o (Some d)) p ≡ option_or o (Some d)
+  or_some (Some x) d p = refl
+  or_some None d p = refl
+
+  some_counted_by : (e : List ℕ × Data) (es : Entries) (p : Option Data) (b : Bool) → (0 < count_of k es → option_or (last_at k es) p ≡ last_at k es)
+      → 0 < (if b then suc (count_of k es) else count_of k es)
+      → option_or (option_or (last_at k es) (if b then Some e.1 else None)) p ≡ option_or (last_at k es) (if b then Some e.1 else None)
+  some_counted_by e es p true later h = or_some (last_at k es) e.1 p
+  some_counted_by e es p false later h = ap (λ o. option_or o p) (or_none (last_at k es)) ∙ later h ∙ sym (or_none (last_at k es))
+
+  some_counted : (es : Entries) (p : Option Data) → 0 < count_of k es → option_or (last_at k es) p ≡ last_at k es
+  some_counted [] p h = absurd (omega arith)
+  some_counted (e ∷ es) p h = some_counted_by e es p (bytes_eq e.0 k) (some_counted es p) h
+
+  last_time : (es : Entries) (d : Data) (c : ℕ) → count_of k es ≡ c → ((m : ℕ) → count_of k es ≡ m → 0 < m → nth_at k m es ≡ last_at k es)
+      → (if nat_le (suc c) 1 then Some d else nth_at k (suc c - 1) es) ≡ option_or (last_at k es) (Some d)
+  last_time es d zero is later = sym (ap (λ o. option_or o (Some d)) (none_counted es is))
+  last_time es d (suc m) is later =
+      let some : 0 < count_of k es = omega arith in
+      rw (later_time m) (rw (fewer (suc m)) (later (suc m) is (omega arith) ∙ sym (some_counted es (Some d) some)))
+
+  counted_by : (e : List ℕ × Data) (es : Entries) (n : ℕ) (b : Bool) → ((m : ℕ) → count_of k es ≡ m → 0 < m → nth_at k m es ≡ last_at k es)
       → (if b then suc (count_of k es) else count_of k es) ≡ n → 0 < n
-      → (if b then (if nat_le n 1 then Some e.1 else nth_at k (n - 1) es) else nth_at k n es) ≡ last_at k (if b then Some e.1 else old) es
-  counted_by e es n old false later h some = later n old h some
-  counted_by e es n old true later h some = subst (λ x. (if nat_le x 1 then Some e.1 else nth_at k (x - 1) es) ≡ last_at k (Some e.1) es) h (last_time es e.1 (count_of k es) refl later)
+      → (if b then (if nat_le n 1 then Some e.1 else nth_at k (n - 1) es) else nth_at k n es) ≡ option_or (last_at k es) (if b then Some e.1 else None)
+  counted_by e es n false later h some = later n h some ∙ sym (or_none (last_at k es))
+  counted_by e es n true later h some =
+      subst (λ x. (if nat_le x 1 then Some e.1 else nth_at k (x - 1) es) ≡ option_or (last_at k es) (Some e.1)) h (last_time es e.1 (count_of k es) refl later)
 
-  pub counted : (es : Entries) (n : ℕ) (old : Option Data) → count_of k es ≡ n → 0 < n → nth_at k n es ≡ last_at k old es
-  counted [] n old h some = absurd (omega arith)
-  counted (e ∷ es) n old h some = counted_by e es n old (bytes_eq e.0 k) (λ m o is more. counted es m o is more) h some
+  pub counted : (es : Entries) (n : ℕ) → count_of k es ≡ n → 0 < n → nth_at k n es ≡ last_at k es
+  counted [] n h some = absurd (omega arith)
+  counted (e ∷ es) n h some = counted_by e es n (bytes_eq e.0 k) (λ m is more. counted es m is more) h some
 
 -- ---- the whole text
 

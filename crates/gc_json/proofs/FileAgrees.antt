@@ -36,7 +36,7 @@ module _ {X : Type 0} (p : X → Bool) where
   all-append [] ys h k = k
   all-append (x ∷ xs) ys h k = let hs = both (p x) (list_all p xs) h in and_true (p x) (list_all p (xs ++ ys)) hs.0 (all-append xs ys hs.1 k)
 
-  all-parts : (xs ys : List X) → list_all p (xs ++ ys) ≡ true → (list_all p xs ≡ true) × (list_all p ys ≡ true)
+  pub all-parts : (xs ys : List X) → list_all p (xs ++ ys) ≡ true → (list_all p xs ≡ true) × (list_all p ys ≡ true)
   all-parts [] ys h = (refl, h)
   all-parts (x ∷ xs) ys h = let hs = both (p x) (list_all p (xs ++ ys)) h in let rest = all-parts xs ys hs.1 in (and_true (p x) (list_all p xs) hs.0 rest.0, rest.1)
 

@@ -1,6 +1,7 @@
 -- The frame of a file, a member at a time.
 use Rattle.std.proofs.Common.{◌≡◌, ℕ, suc, ◌+◌, ◌&&◌, List, [], ◌∷◌, ◌++◌, codes, Option, Some, None, Bool, true, false, bytes_eq, if◌then◌else◌, ◌==◌, ◌-◌, ◌<◌, option_map, refl, subst, sym, ap, ap₂, ◌∙◌, append_assoc, append-nil, arith}
 use Rattle.std.specs.Prelude.{⊤}
+use Rattle.std.specs.Option.{option_or}
 use Rattle.json.specs.Token.{Token}
 use Rattle.json.specs.Json.{parse_map}
 use Rattle.serde_json.specs.Data.{Num, number, Data, Items, no_items, item, array, Members, no_members, object}
@@ -21,9 +22,15 @@ use Rattle.gc_json.proofs.TokenTurns.{value_is}
 abbrev one : List ℕ → Data → Entries
 one k d = (k, d) ∷ []
 
-last_at-append : (key : List ℕ) (old : Option Data) (es : Entries) (k : List ℕ) (d : Data) → last_at key old (es ++ one k d) ≡ (if bytes_eq k key then Some d else last_at key old es)
-last_at-append key old [] k d = refl
-last_at-append key old (e ∷ es) k d = last_at-append key (if bytes_eq e.0 key then Some e.1 else old) es k d
+after_last : (b : Bool) (d : Data) (o p : Option Data) → option_or (if b then Some d else o) p ≡ (if b then Some d else option_or o p)
+after_last true d o p = refl
+after_last false d o p = refl
+
+last_at-append : (key : List ℕ) (es : Entries) (k : List ℕ) (d : Data) → last_at key (es ++ one k d) ≡ (if bytes_eq k key then Some d else last_at key es)
+last_at-append key [] k d = refl
+last_at-append key (e ∷ es) k d =
+    let here : Option Data = if bytes_eq e.0 key then Some e.1 else None in
+    ap (λ o. option_or o here) (last_at-append key es k d) ∙ after_last (bytes_eq k key) d (last_at key es) here
 
 counted : (b c : Bool) (n m : ℕ) → n ≡ (if c then m + 1 else m) → (if b then suc n else n) ≡ (if c then (if b then suc m else m) + 1 else (if b then suc m else m))
 counted true true n m h = grind arith
@@ -47,13 +54,13 @@ all_known-append : (es : Entries) (k : List ℕ) (d : Data) → all_known (es ++
 all_known-append [] k d = and_true (is_key_among file_keys k)
 all_known-append (e ∷ es) k d = ap (λ b. is_key_among file_keys e.0 && b) (all_known-append es k d) ∙ and_assoc (is_key_among file_keys e.0) (all_known es) (is_key_among file_keys k)
 
-place_by : (key : List ℕ) (es : Entries) (d : Data) (b : Bool) (n : ℕ) (o : Option Data) → n ≡ (if b then count_of key es + 1 else count_of key es) → o ≡ (if b then Some d else last_at key None es)
+place_by : (key : List ℕ) (es : Entries) (d : Data) (b : Bool) (n : ℕ) (o : Option Data) → n ≡ (if b then count_of key es + 1 else count_of key es) → o ≡ (if b then Some d else last_at key es)
     → ◌≡◌ {A = ListPlace} record { times = n; len = len_at o } (if b then record { times = count_of key es + 1; len = len_at (Some d) } else place_of key es)
 place_by key es d true n o is at = ap₂ (λ m p. record { times = m; len = len_at p }) is at
 place_by key es d false n o is at = ap₂ (λ m p. record { times = m; len = len_at p }) is at
 
 place_of-append : (key : List ℕ) (es : Entries) (k : List ℕ) (d : Data) → place_of key (es ++ one k d) ≡ place_after key (place_of key es) k d
-place_of-append key es k d = place_by key es d (bytes_eq k key) _ _ (count_of-append key es k d) (last_at-append key None es k d)
+place_of-append key es k d = place_by key es d (bytes_eq k key) _ _ (count_of-append key es k d) (last_at-append key es k d)
 
 version_by : (o p : Option Data) (d : Data) (b : Bool) → o ≡ (if b then Some d else p) → has_version_1 o ≡ (if b then is_version_1 d else has_version_1 p)
 version_by o p d true is = ap (λ x. has_version_1 x) is
@@ -69,7 +76,7 @@ frame_of-append : (es : Entries) (k : List ℕ) (d : Data) → frame_of (es ++ o
 unfolding made_of
 frame_of-append es k d =
     same_frame _ _ _ _ _ _ _ _ _ _ (place_of-append (codes "nodes") es k d) (place_of-append (codes "edges") es k d) (place_of-append (codes "paths") es k d)
-    (version_by _ (last_at (codes "gcore") None es) d (bytes_eq k (codes "gcore")) (last_at-append (codes "gcore") None es k d)) (all_known-append es k d)
+    (version_by _ (last_at (codes "gcore") es) d (bytes_eq k (codes "gcore")) (last_at-append (codes "gcore") es k d)) (all_known-append es k d)
 
 -- ---- a turn of the loop
 

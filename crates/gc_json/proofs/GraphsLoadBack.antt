@@ -12,6 +12,7 @@ use Rattle.gc_base.specs.declared.walk.Walk.{Walk}
 use Rattle.gc_spec.specs.Coherence.{NodeShape, EdgeShape, PathShape}
 use Rattle.gc_spec.specs.PropertyGraph.{Node, Edge, Path, PropertyGraph, IsId, IsNode, IsEdge, IsPath, IsGraph, AreDistinct, empty_graph, ids_of, node_ids, edge_ids, path_ids, is_among, is_joined, are_steps_from, is_walk, node_order, edge_order, path_order}
 use Rattle.gc_ppg.specs.Built.{with_node, with_edge, with_path}
+use Rattle.gc_ppg.specs.Shapes.{graph_agrees}
 use Rattle.gc_ppg.specs.declared.shape.Kind.TheVariants as kind
 use Rattle.serde_json.specs.Data.{Data, item}
 use Rattle.serde_json.specs.Events.{items_len}
@@ -22,12 +23,12 @@ use Rattle.gc_json.specs.ElementValues.{element_of}
 use Rattle.gc_json.specs.FileElements.{Seen, node_of, ends_of, edge_of, path_from, path_of, agreeing, add_node_of, add_edge_of, add_path_of}
 use Rattle.gc_json.specs.GraphFiles.{FileLists, add_elements_of, graph_of_lists, graph_of_few, graph_of_data, file_graph, located, most_elements, part_of}
 use Rattle.gc_json.specs.JsonValues.{id_of, value_of}
-use Rattle.gc_json.specs.LoadedAgain.{AgreesWith, NodeAgrees, EdgeAgrees, PathAgrees}
 use Rattle.gc_json.specs.Reading.{◌>>=◌, or_refused}
 use Rattle.gc_json.specs.WalkItems.{id_on_walk, known_walk, walk_in, walk_items, walk_of, steps_among}
 use Rattle.gc_json.specs.declared.fault.Fault.TheVariants.{IdTooLarge, NoEnd}
 use Rattle.gc_json.specs.declared.refusal.GraphRefusal.TheVariants.{NotJson}
 use Rattle.gc_json.proofs.GatheredSteps.{steps_gathered, walk_gathered}
+use Rattle.gc_json.proofs.LoadedAgain.{AgreesWith, NodeAgrees, EdgeAgrees, PathAgrees, agrees_by_lists}
 use Rattle.gc_json.proofs.GraphsReadBack.{Bounded, edges_bounded, joined_bound, node_bound, read-canonical_text}
 use Rattle.gc_json.proofs.PartsLoadBack.{StepIsBounded, bound, described_back, id_back, numbers_back, on_walk_back, parts, steps_back}
 use Rattle.gc_json.proofs.SortedSets.{with_item-last}
@@ -199,7 +200,7 @@ few_back seen g h few agree =
 value_back : (g : PropertyGraph) → IsGraph g → value_of (canonical_text g) ≡ Some (graph_data g)
 value_back g h = rw (is_utf8-from_IsUtf8 (canonical_text g) (IsUtf8-canonical_text g h)) (read-canonical_text g h)
 
-pub file_graph-canonical_text : (seen : Seen) (g : PropertyGraph) → IsGraph g → element_count g ≤ 1000000 → AgreesWith seen g → file_graph seen (canonical_text g) ≡ Ok g
+pub file_graph-canonical_text : (seen : Seen) (g : PropertyGraph) → IsGraph g → element_count g ≤ 1000000 → graph_agrees seen g ≡ true → file_graph seen (canonical_text g) ≡ Ok g
 file_graph-canonical_text seen g h few agree =
     bound (or_refused NotJson (value_of (canonical_text g))) (graph_data g) (graph_of_data seen) (ap (or_refused NotJson) (value_back g h))
-    ∙ few_back seen g h few agree
+    ∙ few_back seen g h few (agrees_by_lists seen g agree)

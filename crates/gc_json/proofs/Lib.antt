@@ -5,18 +5,21 @@ pub mod FileAgrees
 mod Framing
 mod Fuel
 mod Gathered
+mod GatheredProperties
 pub mod GatheredSteps
 mod GraphsLoadBack
 pub mod GraphsReadBack
 mod Growing
 mod Keys
 mod ListTurns
+mod LoadedAgain
 mod ManyItems
 pub mod PartsLoadBack
 mod Passing
 pub mod ReadsBack
 pub mod Rest
 mod Search
+mod SetsByTurns
 mod SortedSets
 mod TokenTurns
 pub mod Turns

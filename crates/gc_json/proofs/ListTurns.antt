@@ -137,18 +137,18 @@ there due None h = absurd h
 there due (Some (d, r)) h = (d, r, refl, h)
 
 module _ (key k : List ℕ) (times : ℕ) (all ts here : List Token) (es : Entries) (named : k ≡ key) (is : all ≡ Token.begin_object ∷ ts) (whole : object_entries all ≡ Some (Some es)) (count : times ≡ count_of key es) (some : 0 < times) where
-  due_at : option_map (λ p. nth_at k times p.0) (entries_data 126 ts) ≡ Some (last_at key None es)
-  due_at = ap (option_map (λ p. nth_at k times p.0)) (entries_of all ts es is whole) ∙ ap (λ x. Some (nth_at x times es)) named ∙ ap (λ o. Some o) (counted key es times None (sym count) some)
+  due_at : option_map (λ p. nth_at k times p.0) (entries_data 126 ts) ≡ Some (last_at key es)
+  due_at = ap (option_map (λ p. nth_at k times p.0)) (entries_of all ts es is whole) ∙ ap (λ x. Some (nth_at x times es)) named ∙ ap (λ o. Some o) (counted key es times (sym count) some)
 
   pub found_there : {Y : Type 0} (seen : Seen) (kind : Kind) (s : Y → PropertyGraph) (g : PropertyGraph) (r : Result Y (Failure GraphRefusal)) (b : Bool) → b ≡ true → Finds (option_map (λ p. nth_at k times p.0) (entries_data 126 ts)) (Ok b) (option_map (λ p. p.0) (value_data 126 here))
-      → GivesDue s (option_map (λ p. add_elements_of seen kind 0 g (listed (Some p.0))) (value_data 126 here)) r → Gives s (add_elements_of seen kind 0 g (listed (last_at key None es))) r
+      → GivesDue s (option_map (λ p. add_elements_of seen kind 0 g (listed (Some p.0))) (value_data 126 here)) r → Gives s (add_elements_of seen kind 0 g (listed (last_at key es))) r
   found_there seen kind s g r b yes_it_is h gives =
-      let at = there (last_at key None es) (value_data 126 here)
+      let at = there (last_at key es) (value_data 126 here)
       (subst (λ o. Finds o (Ok true) (option_map (λ p. p.0) (value_data 126 here))) due_at (subst (λ x. Finds (option_map (λ p. nth_at k times p.0) (entries_data 126 ts)) (Ok x) (option_map (λ p. p.0) (value_data 126 here))) yes_it_is h)) in
       subst (λ o. Gives s (add_elements_of seen kind 0 g (listed o)) r) (sym at.3) (subst (λ v. GivesDue s (option_map (λ p. add_elements_of seen kind 0 g (listed (Some p.0))) v) r) at.2 gives)
 
   pub not_there : (seen : Seen) (kind : Kind) (g : PropertyGraph) (b : Bool) → b ≡ false → Finds (option_map (λ p. nth_at k times p.0) (entries_data 126 ts)) (Ok b) (option_map (λ p. p.0) (value_data 126 here))
-      → add_elements_of seen kind 0 g (listed (last_at key None es)) ≡ Ok g
+      → add_elements_of seen kind 0 g (listed (last_at key es)) ≡ Ok g
   not_there seen kind g b is_not h =
       ap (λ o. add_elements_of seen kind 0 g (listed o))
       (subst (λ o. Finds o (Ok false) (option_map (λ p. p.0) (value_data 126 here))) due_at (subst (λ x. Finds (option_map (λ p. nth_at k times p.0) (entries_data 126 ts)) (Ok x) (option_map (λ p. p.0) (value_data 126 here))) is_not h))
@@ -167,12 +167,12 @@ pub empty_list : (o : Option Data) → is_zero (len_at o) ≡ true → listed o 
 empty_list None e = refl
 empty_list (Some d) e = none_of (as_array d) e
 
-comes_by : (key : List ℕ) (es : Entries) (n : ℕ) → n ≡ count_of key es → is_zero (len_at (last_at key None es)) ≡ false → 0 < n
-comes_by key es zero is h = absurd (true≢false (sym (ap (λ o. is_zero (len_at o)) (none_counted key es None (sym is))) ∙ h))
+comes_by : (key : List ℕ) (es : Entries) (n : ℕ) → n ≡ count_of key es → is_zero (len_at (last_at key es)) ≡ false → 0 < n
+comes_by key es zero is h = absurd (true≢false (sym (ap (λ o. is_zero (len_at o)) (none_counted key es (sym is))) ∙ h))
 comes_by key es (suc n) is h = omega arith
 
-pub empty_place : (seen : Seen) (kind : Kind) (g : PropertyGraph) (es : Entries) (place : ListPlace) → place ≡ place_of (list_key kind) es → is_zero place.len ≡ true → add_elements_of seen kind 0 g (listed (last_at (list_key kind) None es)) ≡ Ok g
-empty_place seen kind g es place is h = ap (add_elements_of seen kind 0 g) (empty_list (last_at (list_key kind) None es) (ap (λ p. is_zero p.len) (sym is) ∙ h))
+pub empty_place : (seen : Seen) (kind : Kind) (g : PropertyGraph) (es : Entries) (place : ListPlace) → place ≡ place_of (list_key kind) es → is_zero place.len ≡ true → add_elements_of seen kind 0 g (listed (last_at (list_key kind) es)) ≡ Ok g
+empty_place seen kind g es place is h = ap (add_elements_of seen kind 0 g) (empty_list (last_at (list_key kind) es) (ap (λ p. is_zero p.len) (sym is) ∙ h))
 
 pub comes : (kind : Kind) (es : Entries) (place : ListPlace) → place ≡ place_of (list_key kind) es → is_zero place.len ≡ false → (place.times ≡ count_of (list_key kind) es) × (0 < place.times)
 comes kind es place is h =

@@ -1,10 +1,10 @@
 -- The data of labels, values, properties and walks give these again.
 use Rattle.std.proofs.Common.{◌≡◌, ℕ, ◌^◌, pos, negsuc, true, List, [], ◌∷◌, ◌++◌, map, Some, Ok, Result, refl, sym, ap, ◌∙◌, subst, arith, append_assoc, append-nil, nat_le, nat_lt}
 use Rattle.std.proofs.lemmas.Bool.Decides.{nat_tests}
-use Rattle.std.specs.List.{AllByRecursion}
+use Rattle.std.specs.List.{AllByRecursion, filter}
 use Rattle.gc_base.specs.Ascending.{Ascends, with_item}
 use Rattle.gc_base.specs.Literals.{IsLiteral, literal_order, text_order}
-use Rattle.gc_base.specs.PropertyLists.{AreProperties, IsLabelSet, IsProperty, property_order, put}
+use Rattle.gc_base.specs.PropertyLists.{AreProperties, IsLabelSet, IsProperty}
 use Rattle.gc_base.specs.Words.{is_word}
 use Rattle.gc_base.specs.declared.literal.Literal.{Literal}
 use Rattle.gc_base.specs.declared.literal.Literal.TheVariants.{Truth, Number, Text}
@@ -15,14 +15,15 @@ use Rattle.serde_json.specs.Data.{string}
 use Rattle.serde_json.specs.View.{items_of}
 use Rattle.gc_json.specs.CanonicalText.{id_data, literal_data, values_data, property_members, step_items}
 use Rattle.gc_json.specs.ElementParts.{ElementParts, described}
+use Rattle.gc_json.specs.Gathering.{all_or_first, pairs_of}
 use Rattle.gc_json.specs.JsonValues.{id_of, largest_id}
 use Rattle.gc_json.specs.LabelLists.{label_of, labels_of}
 use Rattle.gc_json.specs.LiteralValues.{literal_of, values_of}
-use Rattle.gc_json.specs.PropertyMembers.{are_names, name_of, property_of, properties_of}
+use Rattle.gc_json.specs.PropertyMembers.{are_names, has_values, name_of, property_of, properties_of}
 use Rattle.gc_json.specs.Reading.{◌>>=◌, or_refused}
 use Rattle.gc_json.specs.WalkItems.{are_numbers, id_on_walk, step_of}
 use Rattle.gc_json.specs.declared.fault.Fault.TheVariants.{NotLiteral, BadWalk}
-use Rattle.gc_json.proofs.Gathered.{labels_with, labels_gathered, values_with, values_gathered, properties_with, properties_gathered}
+use Rattle.gc_json.proofs.Gathered.{labels_with, labels_gathered, values_with, values_gathered}
 use Rattle.gc_json.proofs.GatheredSteps.{steps_with}
 use Rattle.gc_json.proofs.SortedSets.{with_item-last}
 
@@ -78,21 +79,22 @@ property_back p h =
     bound (name_of p.name) p.name (λ name. values_of (values_data p.values) >>= λ values. Ok (record { name = name; values = values })) named
     ∙ bound (values_of (values_data p.values)) p.values (λ values. Ok (record { name = p.name; values = values })) read
 
-put_last : (done : List Property) (p : Property) (rest : List Property) → IsProperty p → Ascends property_order (done ++ p ∷ rest) → put done p ≡ done ++ p ∷ []
-put_last done p rest h up = rw h.some (with_item-last property_order done p rest up)
+members_back : (ps : List Property) → AllByRecursion IsProperty ps → all_or_first (map (λ m. property_of m.0 m.1) (pairs_of (property_members ps))) ≡ Ok ps
+members_back [] h = refl
+members_back (p ∷ ps) h =
+    let more = all_or_first (map (λ m. property_of m.0 m.1) (pairs_of (property_members ps))) in
+    bound (property_of p.name (values_data p.values)) p (λ x. more >>= λ xs. Ok (x ∷ xs)) (property_back p h.0)
+    ∙ bound more ps (λ xs. Ok (p ∷ xs)) (members_back ps h.1)
 
-properties_on : (done rest : List Property) → Ascends property_order (done ++ rest) → AllByRecursion IsProperty rest → properties_with done (property_members rest) ≡ Ok (done ++ rest)
-properties_on done [] up each = ap Ok (sym (append-nil done))
-properties_on done (p ∷ rest) up each =
-    let ms = property_members rest in
-    let whole : (done ++ p ∷ []) ++ rest ≡ done ++ p ∷ rest = append_assoc done (p ∷ []) rest in
-    bound (property_of p.name (values_data p.values)) p (λ x. properties_with (put done x) ms) (property_back p each.0)
-    ∙ ap (λ ps. properties_with ps ms) (put_last done p rest each.0 up)
-    ∙ properties_on (done ++ p ∷ []) rest (subst (Ascends property_order) (sym whole) up) each.1
-    ∙ ap Ok whole
+all_have_values : (ps : List Property) → AllByRecursion IsProperty ps → filter has_values ps ≡ ps
+all_have_values [] h = refl
+all_have_values (p ∷ ps) h = rw h.0.some (ap (λ qs. p ∷ qs) (all_have_values ps h.1))
 
 properties_back : (ps : List Property) → AreProperties ps → properties_of (property_members ps) ≡ Ok ps
-properties_back ps h = rw (names_back ps h.each) (sym (properties_gathered [] (property_members ps) refl) ∙ properties_on [] ps h.ascend h.each)
+properties_back ps h =
+    rw (names_back ps h.each)
+    (bound (all_or_first (map (λ m. property_of m.0 m.1) (pairs_of (property_members ps)))) ps (λ qs. Ok (filter has_values qs)) (members_back ps h.each)
+    ∙ ap Ok (all_have_values ps h.each))
 
 -- ---- both
 

@@ -56,10 +56,13 @@ module _ {X : Type 0} (cmp : X → X → Ordering) where
   before [] n more h = tt
   before (x ∷ xs) n more h = (in_middle x xs n more h.0, before xs n more h.1)
 
+  -- an item that is above all goes to the end
+  pub with_item-above : (xs : List X) (n : X) → AllByRecursion (λ y. cmp y n ≡ Less) xs → with_item cmp xs n ≡ xs ++ n ∷ []
+  with_item-above xs n below = λ i. less_kept xs n below i ++ n ∷ less_not_greater xs n below i
+
   -- the next item of an ascending list goes to the end of those before it
   pub with_item-last : (xs : List X) (n : X) (more : List X) → Ascends cmp (xs ++ n ∷ more) → with_item cmp xs n ≡ xs ++ n ∷ []
-  with_item-last xs n more up =
-      let below = before xs n more up in λ i. less_kept xs n below i ++ n ∷ less_not_greater xs n below i
+  with_item-last xs n more up = with_item-above xs n (before xs n more up)
 
   strictly_ascends : (xs : List X) → IsStrictlySortedBy cmp xs → Ascends cmp xs
   unfolding IsStrictlySortedBy

@@ -56,7 +56,7 @@ abbrev lists_if : Bool → Option Data → Option Data → Option Data → Resul
 lists_if b n e p = if b then lists_in n e p else Err fault.WrongShape
 
 abbrev at : List ℕ → Entries → Option Data
-at k es = last_at k None es
+at k es = last_at k es
 
 abbrev entries_lists : Entries → Result FileLists Fault
 entries_lists es = lists_if (all_known es && has_version_1 (at (codes "gcore") es)) (at (codes "nodes") es) (at (codes "edges") es) (at (codes "paths") es)
@@ -66,10 +66,10 @@ lists_of_entries es =
     rw (
       has_only-puts es no_members,
       and_true (all_known es),
-      get_member-puts (codes "gcore") es no_members,
-      get_member-puts (codes "nodes") es no_members,
-      get_member-puts (codes "edges") es no_members,
-      get_member-puts (codes "paths") es no_members,
+      get_member-puts (codes "gcore") es,
+      get_member-puts (codes "nodes") es,
+      get_member-puts (codes "edges") es,
+      get_member-puts (codes "paths") es,
     ) refl
 
 none_of : (o : Option Items) → option_map items_len o ≡ None → ◌≡◌ {A = Result Items Fault} (or_refused fault.WrongShape o) (Err fault.WrongShape)

@@ -1,5 +1,7 @@
 -- The members of an object in the order of the text, where a key may come twice.
 use Rattle.std.specs.Prelude.{ℕ, suc, ◌-◌, List, [], ◌∷◌, length, if◌then◌else◌, nat_le, Option, Some, None, option_map, option_and_then}
+use Rattle.std.specs.List.{fold}
+use Rattle.std.specs.Option.{option_or}
 use Rattle.std.specs.Str.{bytes_eq}
 use Rattle.json.specs.Token.{Token}
 use Rattle.json.specs.Json as json
@@ -22,18 +24,17 @@ entries_data depth ts = converted of_entries (json.members (value depth) (length
 
 -- the object that they make: the last value of a key stays
 abbrev pub puts : Members → Entries → Members
-puts found [] = found
-puts found (e ∷ es) = puts (put e.0 e.1 found) es
+puts found es = fold (λ ms e. put e.0 e.1 ms) found es
 
 -- how often a key comes
 abbrev pub count_of : List ℕ → Entries → ℕ
 count_of k [] = 0
 count_of k (e ∷ es) = if bytes_eq e.0 k then suc (count_of k es) else count_of k es
 
--- the value of a key where it comes the last time, or else an earlier one
-abbrev pub last_at : List ℕ → Option Data → Entries → Option Data
-last_at k old [] = old
-last_at k old (e ∷ es) = last_at k (if bytes_eq e.0 k then Some e.1 else old) es
+-- the value of a key where it comes the last time
+abbrev pub last_at : List ℕ → Entries → Option Data
+last_at k [] = None
+last_at k (e ∷ es) = option_or (last_at k es) (if bytes_eq e.0 k then Some e.1 else None)
 
 -- the value of a key where it comes the n-th time
 abbrev pub nth_at : List ℕ → ℕ → Entries → Option Data

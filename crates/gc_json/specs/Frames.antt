@@ -41,7 +41,7 @@ all_known (e ∷ es) = is_key_among file_keys e.0 && all_known es
 
 -- how often the key of a list comes, and how long its last value is
 abbrev pub place_of : List ℕ → Entries → ListPlace
-place_of key es = record { times = count_of key es; len = len_at (last_at key None es) }
+place_of key es = record { times = count_of key es; len = len_at (last_at key es) }
 
 abbrev pub frame_of : Entries → Frame
 frame_of es =
@@ -49,7 +49,7 @@ frame_of es =
       nodes = place_of (codes "nodes") es;
       edges = place_of (codes "edges") es;
       paths = place_of (codes "paths") es;
-      is_version_1 = has_version_1 (last_at (codes "gcore") None es);
+      is_version_1 = has_version_1 (last_at (codes "gcore") es);
       is_known = all_known es;
     }
 
@@ -83,9 +83,9 @@ listed o = items_or_none (option_and_then as_array o)
 abbrev pub entry_lists : Entries → FileLists
 entry_lists es =
     record {
-      nodes = listed (last_at (codes "nodes") None es);
-      edges = listed (last_at (codes "edges") None es);
-      paths = listed (last_at (codes "paths") None es);
+      nodes = listed (last_at (codes "nodes") es);
+      edges = listed (last_at (codes "edges") es);
+      paths = listed (last_at (codes "paths") es);
     }
 
 -- a place after one more value at its key

@@ -20,11 +20,7 @@ abbrev pub pairs_of : Members → List (List ℕ × Data)
 pairs_of no_members = []
 pairs_of (member key d ms) = (key, d) ∷ pairs_of ms
 
--- one after another goes to what is there
-abbrev pub with_each : {A B : Type 0} → (B → A → B) → B → List A → B
-with_each add old [] = old
-with_each add old (x ∷ xs) = with_each add (add old x) xs
-
 -- the set of a list: ascending, each once
 abbrev pub set_of : {X : Type 0} → (X → X → Ordering) → List X → List X
-set_of cmp xs = with_each (with_item cmp) [] xs
+set_of cmp [] = []
+set_of cmp (x ∷ xs) = with_item cmp (set_of cmp xs) x

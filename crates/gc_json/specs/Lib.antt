@@ -12,7 +12,6 @@ pub mod JsonValues
 pub mod LabelLists
 pub mod ListWalks
 pub mod LiteralValues
-pub mod LoadedAgain
 pub mod Located
 pub mod PartsSeen
 pub mod PropertyMembers

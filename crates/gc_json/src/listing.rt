@@ -1,5 +1,5 @@
 //! A walk over one list of a file: its elements are added one after another, and none is kept.
-ghost use Rattle.std.specs.Prelude.{◌≡◌, ◌<◌, length, Some, None, OnOk, option_map};
+ghost use Rattle.std.specs.Prelude.{◌≡◌, ◌<◌, length, Some, OnOk, option_map};
 ghost use Rattle.json.specs.Json.{parse_map};
 ghost use Rattle.json.specs.Lex.{tokens};
 ghost use Rattle.gc_json.specs.ElementSeen.{element_seen};
@@ -34,7 +34,7 @@ pub(crate) fn add_list(
     kind: Kind,
 ) -> Result<(), Failure<GraphRefusal>>
     ensures { OfObject (tokens text.now) (λ es. frame.now ≡ frame_of es
-        → Gives (λ _. builder.new) (add_elements_of seen.now kind 0 builder.old (listed (last_at (list_key kind) None es))) result) }
+        → Gives (λ _. builder.new) (add_elements_of seen.now kind 0 builder.old (listed (last_at (list_key kind) es))) result) }
 {
     let place = frame.place(kind);
     if place.is_empty() {
@@ -56,7 +56,7 @@ fn add_found(
     kind: Kind,
 ) -> Result<(), Failure<GraphRefusal>>
     ensures { OfObject reader.old (λ es. times ≡ count_of (list_key kind) es → 0 < times
-        → Gives (λ _. builder.new) (add_elements_of seen.now kind 0 builder.old (listed (last_at (list_key kind) None es))) result) }
+        → Gives (λ _. builder.new) (add_elements_of seen.now kind 0 builder.old (listed (last_at (list_key kind) es))) result) }
 {
     if !takes_object(reader) {
         return Ok(());

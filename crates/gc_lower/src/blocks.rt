@@ -100,10 +100,10 @@ fn queries_of(
     Ok(lowered)
 }
 
-// The block of an EXISTS query, which is that of its MATCH.
+/// The block of an EXISTS query, which is that of its MATCH.
 #[tactic(auto, using(crate::proofs::TreeParts::query_parts, crate::proofs::TreeParts::basic_term), unfolding(crate::specs::Blocks::block_of))]
 #[cycle(lowered)]
-fn query_block(
+pub(crate) fn query_block(
     query: &Query,
     alloc: Global,
     naming: &Naming<'_>,

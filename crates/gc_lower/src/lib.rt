@@ -1,8 +1,9 @@
 //! What a block of a checked query file asks for: its patterns as atoms, the parts of its conditions as
 //! conjuncts with their EXISTS queries, and its tree in the order of the text. Others rely on
-//! `lower_match`, `lower_view` and `variable`. This crate knows of no rows and runs nothing.
+//! `lower` and `variable`. This crate knows of no rows and runs nothing.
 #![tactic(auto)]
 
+mod asked;
 mod blocks;
 mod chains;
 mod conjuncts;
@@ -16,5 +17,6 @@ mod reads;
 mod renumbering;
 mod variables;
 
-pub use lowering::{LoweredBlock, lower_match, lower_view};
+pub use asked::AskedBlock;
+pub use lowering::{LoweredBlock, lower};
 pub use variables::variable;

@@ -8,7 +8,7 @@ use Rattle.std.specs.Option.{option_or, option_map}
 use Rattle.gc_base.specs.Ascending.{Ascends}
 use Rattle.gc_spec.specs.Coherence.{ElementShape, NodeShape, EdgeShape, PathShape, shapes_of}
 use Rattle.gc_spec.specs.PropertyGraph.{PropertyGraph}
-use Rattle.gc_ppg.specs.Shapes.{allowed, shape_among}
+use Rattle.gc_ppg.specs.Shapes.{same_if_there, shape_in}
 use Rattle.gc_ppg.specs.Tables.{ends_of, walk_of}
 use Rattle.gc_ppg.specs.declared.coherence.EdgeEnds.{EdgeEnds}
 use Rattle.gc_ppg.specs.declared.coherence.PathWalk.{PathWalk}
@@ -41,7 +41,7 @@ abbrev pub first_shape : Option ℕ → Option EdgeEnds → Option PathWalk → 
 first_shape n e p = option_or (option_or (option_map (λ _. NodeShape) n) (option_map edge_shape e)) (option_map path_shape p)
 
 shape_found : (ns : List ℕ) (es : List EdgeEnds) (ps : List PathWalk) (id : ℕ)
-    → shape_among (table ns es ps) id ≡ first_shape (find (λ i. i == id) ns) (find (λ e. e.id == id) es) (find (λ p. p.id == id) ps)
+    → shape_in (table ns es ps) id ≡ first_shape (find (λ i. i == id) ns) (find (λ e. e.id == id) es) (find (λ p. p.id == id) ps)
 shape_found ns es ps id =
     let test : ℕ → Bool = λ other. other == id in
     lookup-append test (map (λ i. (i, NodeShape)) ns ++ map (λ e. (e.id, EdgeShape e.from e.to)) es) (map (λ p. (p.id, PathShape p.walk)) ps)
@@ -50,12 +50,12 @@ shape_found ns es ps id =
     ∙ (λ k. option_or (lookup-keyed (λ i. i) (λ _. NodeShape) ns id k) (lookup-keyed (λ e. e.id) edge_shape es id k))) j)
     (lookup-keyed (λ p. p.id) path_shape ps id j))
 
--- whether a shape is allowed, by what is found in turn
-pub allowed_there : (ns : List ℕ) (es : List EdgeEnds) (ps : List PathWalk) (id : ℕ) (shape : ElementShape) (shapes : List (ℕ × ElementShape)) (n : Option ℕ) (e : Option EdgeEnds) (p : Option PathWalk)
+-- whether a shape is the same as the one that is found in turn
+pub found_there : (ns : List ℕ) (es : List EdgeEnds) (ps : List PathWalk) (id : ℕ) (shape : ElementShape) (shapes : List (ℕ × ElementShape)) (n : Option ℕ) (e : Option EdgeEnds) (p : Option PathWalk)
     → table ns es ps ≡ shapes → n ≡ find (λ i. i == id) ns → e ≡ find (λ x. x.id == id) es → p ≡ find (λ x. x.id == id) ps
-    → allowed (first_shape n e p) shape ≡ allowed (shape_among shapes id) shape
-allowed_there ns es ps id shape shapes n e p same hn he hp =
-    (λ j. allowed (first_shape (hn j) (he j) (hp j)) shape) ∙ (ap (λ o. allowed o shape) (sym (shape_found ns es ps id)) ∙ ap (λ t. allowed (shape_among t id) shape) same)
+    → same_if_there (first_shape n e p) shape ≡ same_if_there (shape_in shapes id) shape
+found_there ns es ps id shape shapes n e p same hn he hp =
+    (λ j. same_if_there (first_shape (hn j) (he j) (hp j)) shape) ∙ (ap (λ o. same_if_there o shape) (sym (shape_found ns es ps id)) ∙ ap (λ t. same_if_there (shape_in t id) shape) same)
 
 map-map : {X Y Z : Type 0} (f : X → Y) (g : Y → Z) (xs : List X) → map g (map f xs) ≡ map (λ x. g (f x)) xs
 map-map f g [] = refl

@@ -1,4 +1,4 @@
--- What identities stand for in some graphs, and whether a shape agrees with that.
+-- Whether the shapes of elements agree with those in some graphs.
 use Rattle.std.specs.Prelude.{ℕ, Bool, true, false, ◌&&◌, ◌==◌, List, Option, Some, None}
 use Rattle.std.specs.List.{list_all}
 use Rattle.std.specs.Map.{lookup}
@@ -23,19 +23,19 @@ same_shape (EdgeShape a b) (EdgeShape c d) = (a == c) && (b == d)
 same_shape (PathShape v) (PathShape w) = same_walk v w
 same_shape s t = false
 
--- whether a shape is that of the identity, where the identity is there
-abbrev pub allowed : Option ElementShape → ElementShape → Bool
-allowed None shape = true
-allowed (Some s) shape = same_shape s shape
+-- whether a shape is the same as another one, where this is there
+abbrev pub same_if_there : Option ElementShape → ElementShape → Bool
+same_if_there None shape = true
+same_if_there (Some s) shape = same_shape s shape
 
 -- the shape of an identity among the shapes of a graph, if it is there
-abbrev pub shape_among : List (ℕ × ElementShape) → ℕ → Option ElementShape
-shape_among shapes id = lookup (λ other. other == id) shapes
+abbrev pub shape_in : List (ℕ × ElementShape) → ℕ → Option ElementShape
+shape_in shapes id = lookup (λ other. other == id) shapes
 
--- whether an identity has this shape in each of the graphs that has it
+-- whether an identity has this shape in each graph that has it, of which these are the shapes
 abbrev pub agrees : List (List (ℕ × ElementShape)) → ℕ → ElementShape → Bool
-agrees seen id shape = list_all (λ shapes. allowed (shape_among shapes id) shape) seen
+agrees seen id shape = list_all (λ shapes. same_if_there (shape_in shapes id) shape) seen
 
--- whether each element of a graph agrees with what its identity stands for in some graphs
+-- whether each element of a graph agrees so
 abbrev pub graph_agrees : List (List (ℕ × ElementShape)) → PropertyGraph → Bool
 graph_agrees seen g = list_all (λ s. agrees seen s.0 s.1) (shapes_of g)

@@ -1,6 +1,6 @@
 ghost use Rattle.std.specs.Prelude.{◌≡◌, ◌++◌, ◌∷◌, ◌==◌, [], map, IfOk, OnOk, OnErr};
 ghost use Rattle.gc_spec.specs.Coherence.{shapes_of};
-ghost use Rattle.gc_ppg.specs.Shapes.{agrees, allowed, shape_among};
+ghost use Rattle.gc_ppg.specs.Shapes.{agrees, same_if_there, shape_in};
 ghost use Rattle.gc_ppg.specs.ShapeOf.{element_shape};
 
 use crate::graph::Graph;
@@ -177,7 +177,7 @@ impl Shapes {
 
     // Whether an identity has this shape, or is not there.
     fn allows(&self, id: Id, shape: &Shape) -> bool
-        ensures { result ≡ allowed (shape_among self.now id) (element_shape shape.now) }
+        ensures { result ≡ same_if_there (shape_in self.now id) (element_shape shape.now) }
     {
         if let Some(_) = find(&self.nodes, id) {
             return shape.is_node();

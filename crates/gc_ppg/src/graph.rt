@@ -1,8 +1,8 @@
-ghost use Rattle.std.specs.Prelude.{◌≡◌, ◌+◌, ◌<◌, ◌==◌, length, map, slice_get, Some, IfOk};
+ghost use Rattle.std.specs.Prelude.{◌≡◌, ◌+◌, ◌<◌, ◌≤◌, ◌==◌, length, map, slice_get, Some, IfOk};
 ghost use Rattle.std.specs.List.{filter};
 ghost use Rattle.std.specs.Option.{option_copied, option_and_then};
 ghost use Rattle.gc_spec.specs.PropertyGraph.{IsGraph, node_at, edge_at, path_at};
-ghost use Rattle.gc_ppg.specs.FreeIds.{above, first_free};
+ghost use Rattle.gc_ppg.specs.FreeIds.{IsFirstFree, IsLeastAbove};
 ghost use Rattle.gc_ppg.specs.Reads.{handed_out};
 ghost use Rattle.gc_ppg.specs.KeyedPlaces.{AreEnds};
 
@@ -12,7 +12,7 @@ use crate::label_index::LabelIndex;
 use crate::places::{PlaceAt, Places};
 use crate::search::find;
 use crate::shape::Kind;
-use gc_base::{Duplicate, Id, Memory, Name, Numbered, Steps, copies};
+use gc_base::{Id, Memory, Name, Numbered, Steps, copies};
 use std::alloc::Global;
 use std::marker::Model;
 use std::sync::ledger::Ledger;
@@ -183,15 +183,31 @@ impl Graph {
         counted(self.edge_at(place), steps)
     }
 
-    /// The first identity that is above all of the graph, or 0 where it has no element. It hands out
-    /// no element.
+    /// The first identity that is above all of the graph, or 0 where it has no element. It is at most
+    /// one more than the largest identity. It hands out no element.
     pub fn first_free(&self) -> u64
-        ensures free { result ≡ first_free self.now }
+        ensures free { IsFirstFree self.now result }
+        ensures most { result ≤ 9007199254740992 }
         ensures valid { IsGraph self.now }
     {
         let nodes = above(0, self.nodes());
         let edges = above(nodes, self.edges());
         above(edges, self.paths())
+    }
+
+    /// A copy of the graph. Each element takes one step.
+    pub fn copy<L: Ledger>(&self, steps: &mut Steps<L>) -> Result<Graph, Memory>
+        ensures same { IfOk result (λ g. g ≡ self.now) }
+        ensures step { steps.new ≡ steps.old + (length self.now.nodes + length self.now.edges + length self.now.paths) }
+    {
+        let alloc = *self.nodes.allocator();
+        count_all(self.nodes().len(), steps);
+        count_all(self.edges().len(), steps);
+        count_all(self.paths().len(), steps);
+        let nodes = copies(alloc, self.nodes())?;
+        let edges = copies(alloc, self.edges())?;
+        let paths = copies(alloc, self.paths())?;
+        Graph::of_elements(alloc, nodes, edges, paths)
     }
 
     /// How many elements of a kind have a label.
@@ -288,7 +304,7 @@ impl Graph {
 
 // The first number from one on that is above the identities of some elements.
 fn above<T: Element>(start: u64, elements: &[T]) -> u64
-    ensures { result ≡ above start (map T.id_of elements.now) }
+    ensures { IsLeastAbove start (map T.id_of elements.now) result }
 {
     let mut free = start;
     for element in elements {
@@ -307,13 +323,12 @@ fn nth_place(places: &[usize], i: usize) -> Option<usize>
     }
 }
 
-impl Duplicate for Graph {
-    fn copy(&self) -> Result<Graph, Memory> {
-        let alloc = *self.nodes.allocator();
-        let nodes = copies(alloc, self.nodes())?;
-        let edges = copies(alloc, self.edges())?;
-        let paths = copies(alloc, self.paths())?;
-        Graph::of_elements(alloc, nodes, edges, paths)
+// Counts so many elements that are handed out.
+fn count_all<L: Ledger>(elements: usize, steps: &mut Steps<L>)
+    ensures { steps.new ≡ steps.old + elements }
+{
+    for _ in 0..elements {
+        steps.tick();
     }
 }
 

@@ -1,5 +1,6 @@
 mod AllPathsSearched
 mod BasicsMade
+mod BuiltFiles
 mod BuiltRests
 mod CostLaws
 mod DistinctVariables
@@ -8,6 +9,7 @@ mod ExplainedViews
 mod FoundSearched
 mod FreeWords
 mod Heads
+mod InOrderLaws
 mod OneOutcome
 mod OneView
 mod Outcomes
@@ -23,10 +25,8 @@ mod UsesLaws
 mod ViewsMade
 pub mod AllOf
 pub mod BasicLinks
-pub mod BuiltFiles
 pub mod BuiltParts
 pub mod HiddenLaws
-pub mod InOrderLaws
 pub mod Joining
 pub mod MakeLinks
 pub mod MakeSites

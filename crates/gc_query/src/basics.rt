@@ -28,7 +28,7 @@ use gc_build::{Built, Refusal, construct};
 use gc_build_numbers::Setting;
 use gc_build_reading::{found_variables, recipe};
 use gc_catalog::Catalog;
-use gc_lower::lower_match;
+use gc_lower::{AskedBlock, lower};
 use gc_ppg::GraphList;
 use gc_prod::SegmentTable;
 use gc_rows::Table;
@@ -54,7 +54,12 @@ pub(crate) fn basic_made<L: Ledger>(
     ensures told { OnOk result (Tells (scope_in session.now)
         (EvaluatesBasic (scope_in session.now) named.now.names graphs.now (basic_tree (names_in session.now) basic.now)) told.old told.new) }
 {
-    let lowered = lower_match(session.alloc, session.checked, basic)?;
+    let lowered = lower(
+        session.alloc,
+        session.checked,
+        AskedBlock::Match(basic),
+        0,
+    )?;
     let segments = segments_used(session, graphs, &lowered.block, steps)?;
     let table = table_of(session.alloc, graphs, &segments, &lowered.block, steps)?;
     tell(

@@ -24,7 +24,7 @@ use gc_base::{Bytes, Duplicate, Memory, Name, NameAt, Steps};
 use gc_catalog::Catalog;
 use gc_cert_searches::searches_of;
 use gc_explain_query::{ExplainedView, query_lines};
-use gc_lower::lower_view;
+use gc_lower::{AskedBlock, lower};
 use gc_ppg::GraphList;
 use gc_prod::SegmentTable;
 use gc_rows::Table;
@@ -154,7 +154,8 @@ fn push_view(
                 name: word_at(session, *name),
                 graph: named.name_at(graph),
             };
-            let lowered = lower_view(session.alloc, session.checked, chains, filter, graph)?;
+            let asked = AskedBlock::View { chains, filter };
+            let lowered = lower(session.alloc, session.checked, asked, graph)?;
             push_named(&view, lowered.block, views)
         }
         Head::Graph { .. } => Ok(()),

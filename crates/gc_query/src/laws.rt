@@ -1,12 +1,13 @@
-ghost use Rattle.std.specs.Prelude.{◌≡◌, ◌++◌, ℕ, List, None};
-ghost use Rattle.gc_ast.specs.Trees.{AStatement, Tree, row};
+ghost use Rattle.std.specs.Prelude.{◌≡◌, ◌++◌, ◌≤◌, ℕ, List, Option, None};
+ghost use Rattle.gc_ast.specs.Trees.{AStatement, Kind, Named, Tree, row};
+ghost use Rattle.gc_expr.specs.Views.{Names};
 ghost use Rattle.gc_sorts.specs.SortRules.{first_breach};
 ghost use Rattle.gc_lower.specs.Namings.{QueryFile};
 ghost use Rattle.gc_lower.specs.Scopes.{Scope};
 ghost use Rattle.gc_query.specs.Built.{AreBuilt};
 ghost use Rattle.gc_query.specs.Evaluations.{Evaluation};
 ghost use Rattle.gc_query.specs.Expressions.{EachHasParts};
-ghost use Rattle.gc_query.specs.InOrder.{IsInOrder};
+ghost use Rattle.gc_query.specs.InOrder.{IsInOrder, IsNameIf, IsNameIn};
 ghost use Rattle.gc_query.specs.Logs.{IsGained, Log};
 ghost use Rattle.gc_query.specs.Sessions.{Answer, Answers};
 ghost use Rattle.gc_query.specs.Standings.{Standing};
@@ -23,6 +24,15 @@ pub fn a_statement_comes_to_one_answer()
 pub fn a_file_that_breaks_no_rule_is_built()
     ensures { (f : QueryFile) (upto : ℕ) → EachHasParts (row f.statements) → IsInOrder f.names 0 (row f.statements) upto
         → first_breach f.graphs (row f.statements) ≡ None → AreBuilt f }
+{}
+
+/// What stands in order between two numbers stands so between wider ones: a tree, a name, and a name that may be left out.
+pub fn what_is_in_order_is_so_between_wider_numbers()
+    ensures tree { (names : Names) (k : Kind) (low from upto high : ℕ) (t : Tree k) → low ≤ from → upto ≤ high → IsInOrder names from t upto
+        → IsInOrder names low t high }
+    ensures name { (names : Names) (low from upto high : ℕ) (x : Named) → low ≤ from → upto ≤ high → IsNameIn names from x upto → IsNameIn names low x high }
+    ensures optional { (names : Names) (low from upto high : ℕ) (o : Option Named) → low ≤ from → upto ≤ high → IsNameIf names from o upto
+        → IsNameIf names low o high }
 {}
 
 /// What a log gains of some CONSTRUCTs, and then of others, is what it gains of all of them in turn.

@@ -25,7 +25,7 @@ mod used_views;
 pub use fault::{Fault, QueryRefusal};
 pub use laws::{
     a_file_that_breaks_no_rule_is_built, a_statement_comes_to_one_answer,
-    what_a_log_gains_in_turn_it_gains_together,
+    what_a_log_gains_in_turn_it_gains_together, what_is_in_order_is_so_between_wider_numbers,
 };
 pub use log::{RunLog, Wants};
 pub use steps::step;

@@ -17,7 +17,7 @@ use crate::tables::table_of;
 use gc_alg::Block;
 use gc_ast::{Chain, ChainList, Formula, Pattern, Query};
 use gc_base::{NameAt, Steps};
-use gc_lower::lower_view;
+use gc_lower::{AskedBlock, lower};
 use gc_ppg::GraphList;
 use gc_prod::{SegmentList, SegmentTable};
 use gc_views::{ViewFault, segments};
@@ -46,13 +46,11 @@ pub(crate) fn view_segments<L: Ledger>(
     if !is_plain_view(view) {
         return Ok(SegmentList::new(session.alloc));
     }
-    let lowered = lower_view(
-        session.alloc,
-        session.checked,
-        view.chains,
-        view.filter,
-        graph,
-    )?;
+    let asked = AskedBlock::View {
+        chains: view.chains,
+        filter: view.filter,
+    };
+    let lowered = lower(session.alloc, session.checked, asked, graph)?;
     block_segments(session, graphs, view, graph, &lowered.block, steps)
 }
 

@@ -17,7 +17,7 @@ use crate::made::Made;
 use crate::session::Session;
 use crate::standing::stand;
 use gc_ast::{Head, NextTerm, Query, Term};
-use gc_base::{Duplicate, Memory, Steps};
+use gc_base::{Memory, Steps};
 use gc_catalog::Catalog;
 use gc_ppg::{Graph, GraphBuilder, GraphList};
 use std::alloc::Global;
@@ -195,17 +195,18 @@ fn term_made<L: Ledger>(
             told,
             steps,
         ),
-        Term::Graph(name) => graph_named(session, catalog.graphs(), name.token, next),
+        Term::Graph(name) => graph_named(session, catalog.graphs(), name.token, next, steps),
         Term::Query(query) => query_made(query, session, catalog, next, told, steps),
     }
 }
 
 // The graph whose name stands at a token.
-fn graph_named(
+fn graph_named<L: Ledger>(
     session: &Session<'_>,
     graphs: &GraphList,
     token: u32,
     next: u64,
+    steps: &mut Steps<L>,
 ) -> Result<Made, QueryRefusal>
     requires most { next ≤ 9007199254740992 }
     ensures rises { Rises next result }
@@ -213,16 +214,21 @@ fn graph_named(
     ensures due { IsAnswered (λ outcome. outcome ≡ Ok (named (record { graphs = graphs.now; next = next }) (number_at (scope_in session.now).graph_at token))) result }
 {
     let number = session.checked.graph_at(token).unwrap_or(0);
-    let graph = graph_of_number(session.alloc, graphs, number)?;
+    let graph = graph_of_number(session.alloc, graphs, number, steps)?;
     Ok(Made { graph, next })
 }
 
 // A copy of the graph of a number.
-fn graph_of_number(alloc: Global, graphs: &GraphList, number: u32) -> Result<Graph, Memory>
+fn graph_of_number<L: Ledger>(
+    alloc: Global,
+    graphs: &GraphList,
+    number: u32,
+    steps: &mut Steps<L>,
+) -> Result<Graph, Memory>
     ensures { IfOk result (λ g. g ≡ graph_of_number graphs.now number) }
 {
     match graphs.as_slice().get(number as usize) {
-        Some(graph) => graph.copy(),
+        Some(graph) => graph.copy(steps),
         None => no_elements(alloc),
     }
 }

@@ -6,15 +6,15 @@ ghost use Rattle.gc_sets.specs.Descriptions.{united_labels, united_values, unite
 
 use gc_base::{Ascending, Duplicate, Item, LabelSet, Memory, Properties, Property, ValueSet};
 
-/// Adds the labels of another set.
-pub fn unite_labels(labels: &mut LabelSet, more: &LabelSet) -> Result<(), Memory>
+// Adds the labels of another set.
+pub(crate) fn unite_labels(labels: &mut LabelSet, more: &LabelSet) -> Result<(), Memory>
     ensures { OnOk result (labels.new ≡ united_labels labels.old more.now) }
 {
     unite(labels, more)
 }
 
-/// Adds the values of other properties.
-pub fn unite_properties(properties: &mut Properties, more: &Properties) -> Result<(), Memory>
+// Adds the values of other properties.
+pub(crate) fn unite_properties(properties: &mut Properties, more: &Properties) -> Result<(), Memory>
     ensures { OnOk result (properties.new ≡ united_properties properties.old more.now) }
 {
     for property in more.as_slice() {

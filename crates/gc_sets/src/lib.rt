@@ -1,6 +1,6 @@
 //! Set operations on graphs: union, intersection and difference of two, and the union of many elements
-//! that are claimed in any order. Each gives exactly what the definition says of every identity. The
-//! unions of labels and of properties are here too. This crate knows of no query and no row.
+//! that are claimed in any order. Each gives exactly what the definition says of every identity. This
+//! crate knows of no query and no row.
 #![tactic(auto)]
 
 mod additions;
@@ -21,7 +21,6 @@ mod uniting;
 mod whole;
 
 pub use agreed::unite_agreed;
-pub use descriptions::{unite_labels, unite_properties};
 pub use difference::minus;
 pub use intersection::intersect;
 pub use laws::{

@@ -1,5 +1,6 @@
 pub mod FirstBreach
 pub mod Slots
+pub mod LinkKeys
 pub mod Places
 pub mod LoadedSlots
 pub mod Rows

@@ -6,6 +6,7 @@ pub mod Constructs
 pub mod Expressions
 pub mod Graphs
 pub mod Holders
+pub mod LinkKeys
 pub mod Links
 pub mod Marks
 pub mod Matches

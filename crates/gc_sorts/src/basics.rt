@@ -15,6 +15,7 @@ use crate::constructs::items;
 use crate::graphs::GraphNames;
 use crate::index::Index;
 use crate::link::LinkAt;
+use crate::links::Links;
 use crate::loose::loose_items;
 use crate::makes::Makes;
 use crate::making::Making;
@@ -82,6 +83,7 @@ fn add_match(
 // The first breach of those so far and of the items of a CONSTRUCT, beside the places and the links of
 // its MATCH.
 fn construct(
+    alloc: Global,
     found: Option<Breach>,
     graphs: &GraphNames,
     variables: &Variables,
@@ -102,7 +104,8 @@ fn construct(
         makes,
     };
     let found = items(found, graphs, &making, all);
-    Ok(loose_items(found, variables, links, all))
+    let links = Links::of(alloc, variables, links)?;
+    Ok(loose_items(found, &links, all))
 }
 
 /// The first breach of those so far and of a CONSTRUCT with its MATCH, but for what each block breaks by
@@ -137,5 +140,5 @@ pub(crate) fn basic(
 {
     let mut links = Vec::new(alloc);
     let found = add_match(found, variables, costs, &mut links, main, optionals)?;
-    construct(found, graphs, variables, &links, makes, all)
+    construct(alloc, found, graphs, variables, &links, makes, all)
 }

@@ -1,5 +1,6 @@
-ghost use Rattle.std.specs.Prelude.{◌≡◌, ◌++◌, ◌∷◌, ◌+◌, [], ◌-◌, ◌≤◌, ◌↔◌, ℕ, length, take, true, IsTrue, Some, None, slice_index_or, IfOk, OnOk, OnErr};
+ghost use Rattle.std.specs.Prelude.{◌≡◌, ◌++◌, ◌∷◌, ◌+◌, [], ◌-◌, ◌≤◌, ◌↔◌, ℕ, length, take, true, IsTrue, Some, None, slice_index_or, nat_eq, IfOk, OnOk, OnErr};
 ghost use Rattle.std.specs.List.{list_all};
+ghost use Rattle.gc_base.specs.declared.place.Sym.{Sym as Number};
 ghost use Rattle.gc_base.specs.Words.{is_word};
 ghost use Rattle.gc_expr.specs.Views.{name_of};
 ghost use Rattle.gc_ast.specs.Names.{same_name};
@@ -54,19 +55,14 @@ impl<'a> Index<'a> {
         })
     }
 
-    /// The slot of a number.
+    /// The slot of a number. Another number stands for the same name exactly where it has the same slot.
     pub fn slot(&self, sym: Sym) -> usize
         ensures slot { result ≡ slot (length self.now.names) sym }
         ensures within { result ≤ length self.now.names }
+        ensures same { (other : Number) → same_name (name_of self.now.names sym) (name_of self.now.names other) ≡ nat_eq result
+            (slot (length self.now.names) other) }
     {
         slot(self.names, sym)
-    }
-
-    /// Whether two numbers stand for one name.
-    pub fn same(&self, a: Sym, b: Sym) -> bool
-        ensures { result ≡ same_name (name_of self.now.names a) (name_of self.now.names b) }
-    {
-        slot(self.names, a) == slot(self.names, b)
     }
 
     /// How many names came.

@@ -19,6 +19,7 @@ mod graphs;
 mod index;
 mod laws;
 mod link;
+mod links;
 mod loose;
 mod makes;
 mod making;

@@ -1,10 +1,11 @@
-ghost use Rattle.std.specs.Prelude.{◌≡◌, ◌&&◌};
+ghost use Rattle.std.specs.Prelude.{◌≡◌};
 ghost use Rattle.std.specs.Option.{option_map};
+ghost use Rattle.gc_base.specs.declared.place.Sym.{Sym as Number};
 ghost use Rattle.gc_expr.specs.Views.{Names, name_of};
 ghost use Rattle.gc_ast.specs.PatternViews.{named_if};
-ghost use Rattle.gc_sorts.specs.Links.{link_by, turned, same_way, same_neighbour, fits, name_if};
+ghost use Rattle.gc_sorts.specs.LinkKeys.{turned_link, key_between};
+ghost use Rattle.gc_sorts.specs.Links.{turned, name_if};
 
-use crate::variables::Variables;
 use gc_base::{Direction, NameAt, Sym};
 
 /// A link of a named variable between its neighbours, which may have no name.
@@ -14,6 +15,15 @@ pub struct LinkAt {
     pub left: Option<Sym>,
     pub right: Option<Sym>,
     pub way: Direction,
+}
+
+/// The slots of a link's name and of its neighbours, along its arrow, if it has one.
+#[derive(Clone, Copy, Debug, PartialEq, Eq, Hash)]
+pub struct LinkKey {
+    pub name: usize,
+    pub from: usize,
+    pub to: usize,
+    pub has_arrow: bool,
 }
 
 /// The number of a name that may be absent.
@@ -36,49 +46,34 @@ fn turned(way: Direction) -> Direction
     }
 }
 
-fn same_way(a: Direction, b: Direction) -> bool
-    ensures { result ≡ same_way a b }
-{
-    match a {
-        Direction::Forward => b == Direction::Forward,
-        Direction::Backward => b == Direction::Backward,
-        Direction::Either => b == Direction::Either,
+impl LinkAt {
+    /// The link from the other side.
+    pub fn turned(self) -> LinkAt
+        ensures { result ≡ turned_link self }
+    {
+        LinkAt {
+            name: self.name,
+            left: self.right,
+            right: self.left,
+            way: turned(self.way),
+        }
     }
 }
 
-fn same_neighbour(variables: &Variables, a: Option<Sym>, b: Option<Sym>) -> bool
-    ensures { result ≡ same_neighbour (option_map (name_of variables.now.names) a) (option_map (name_of variables.now.names) b) }
-{
-    match a {
-        None => false,
-        Some(a) => match b {
-            None => false,
-            Some(b) => variables.same(a, b),
-        },
+impl LinkKey {
+    /// The key of a link between its neighbours, by their slots.
+    pub fn between(name: usize, left: usize, right: usize, way: Direction) -> LinkKey
+        ensures { result ≡ key_between name left right way }
+    {
+        let (from, to) = match way {
+            Direction::Backward => (right, left),
+            _ => (left, right),
+        };
+        LinkKey {
+            name,
+            from,
+            to,
+            has_arrow: way != Direction::Either,
+        }
     }
-}
-
-/// Whether a link is another one, as it is read or from the other side.
-pub(crate) fn fits(variables: &Variables, a: LinkAt, b: LinkAt) -> bool
-    ensures { result ≡ fits (link_by variables.now.names a) (link_by variables.now.names b) }
-{
-    variables.same(a.name, b.name)
-        && (fits_straight(variables, a, b) || fits_turned(variables, a, b))
-}
-
-fn fits_straight(variables: &Variables, a: LinkAt, b: LinkAt) -> bool
-    ensures { result ≡ (same_neighbour (option_map (name_of variables.now.names) a.left) (option_map (name_of variables.now.names) b.left) &&
-        (same_neighbour (option_map (name_of variables.now.names) a.right) (option_map (name_of variables.now.names) b.right) && same_way a.way b.way)) }
-{
-    same_neighbour(variables, a.left, b.left)
-        && (same_neighbour(variables, a.right, b.right) && same_way(a.way, b.way))
-}
-
-fn fits_turned(variables: &Variables, a: LinkAt, b: LinkAt) -> bool
-    ensures { result ≡ (same_neighbour (option_map (name_of variables.now.names) a.left) (option_map (name_of variables.now.names) b.right) &&
-        (same_neighbour (option_map (name_of variables.now.names) a.right) (option_map (name_of variables.now.names) b.left) && same_way a.way
-        (turned b.way))) }
-{
-    same_neighbour(variables, a.left, b.right)
-        && (same_neighbour(variables, a.right, b.left) && same_way(a.way, turned(b.way)))
 }

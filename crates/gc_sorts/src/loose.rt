@@ -1,6 +1,5 @@
 ghost use Rattle.std.specs.Prelude.{◌≡◌, ◌+◌, ◌<◌, ◌^◌, map, drop, None};
 ghost use Rattle.std.specs.Option.{option_map};
-ghost use Rattle.std.specs.List.{list_any};
 ghost use Rattle.gc_base.specs.declared.place.Direction.TheVariants.{Forward};
 ghost use Rattle.gc_expr.specs.Views.{Names, name_of};
 ghost use Rattle.gc_ast.specs.QueryViews.{part_tree, item_tree};
@@ -11,53 +10,24 @@ ghost use Rattle.gc_sorts.specs.Links.{link_by};
 ghost use Rattle.gc_sorts.specs.Patterns.{each};
 
 use crate::breach::{Breach, SortRule, noted_if};
-use crate::link::{LinkAt, fits, sym_if};
-use crate::variables::Variables;
+use crate::link::{LinkAt, sym_if};
+use crate::links::Links;
 use gc_ast::{ConstructPart, ConstructPartList, Item, ItemList};
 use gc_base::{Direction, NameAt, Sym};
 
-// Whether a link fits one of those of the MATCH.
-fn fits_one(matched: &Variables, links: &[LinkAt], link: LinkAt) -> bool
-    ensures { result ≡ list_any (linking.fits (link_by matched.now.names link)) (map (link_by matched.now.names) links.now) }
+fn bound_link(found: Option<Breach>, links: &Links, link: LinkAt, token: u64) -> Option<Breach>
+    ensures { result ≡ first_among found (linking.bound_link links.now.links (link_by links.now.names link) token) }
 {
-    for other in links {
-        if fits(matched, link, *other) {
-            return true;
-        }
-    }
-    false
-}
-
-fn bound_link(
-    found: Option<Breach>,
-    matched: &Variables,
-    links: &[LinkAt],
-    link: LinkAt,
-    token: u64,
-) -> Option<Breach>
-    ensures { result ≡ first_among found (linking.bound_link (map (link_by matched.now.names) links.now) (link_by matched.now.names link) token) }
-{
-    noted_if(
-        found,
-        !fits_one(matched, links, link),
-        SortRule::LooseEdge,
-        token,
-    )
+    noted_if(found, !links.has(link), SortRule::LooseEdge, token)
 }
 
 // A path, whose links go forward.
-fn bound_if(
-    found: Option<Breach>,
-    matched: &Variables,
-    links: &[LinkAt],
-    link: LinkAt,
-    token: u64,
-) -> Option<Breach>
-    ensures { result ≡ first_among found (linking.bound_if matched.now.uses (map (link_by matched.now.names) links.now)
-        (link_by matched.now.names link) token) }
+fn bound_if(found: Option<Breach>, links: &Links, link: LinkAt, token: u64) -> Option<Breach>
+    ensures { result ≡ first_among found (linking.bound_if links.now.uses links.now.links
+        (link_by links.now.names link) token) }
 {
-    if matched.has(link.name) {
-        bound_link(found, matched, links, link, token)
+    if links.is_matched(link.name) {
+        bound_link(found, links, link, token)
     } else {
         found
     }
@@ -78,22 +48,21 @@ fn bracket(way: Direction, token: u64) -> u64
 // An edge between its neighbours.
 fn loose_edge(
     found: Option<Breach>,
-    matched: &Variables,
-    links: &[LinkAt],
+    links: &Links,
     left: Option<Sym>,
     right: Option<Sym>,
     way: Direction,
     token: u64,
     name: Option<Sym>,
 ) -> Option<Breach>
-    ensures { result ≡ first_among found (linking.loose_edge matched.now.uses (map (link_by matched.now.names) links.now)
-        (option_map (name_of matched.now.names) left) (option_map (name_of matched.now.names) right) way token
-        (option_map (name_of matched.now.names) name)) }
+    ensures { result ≡ first_among found (linking.loose_edge links.now.uses links.now.links
+        (option_map (name_of links.now.names) left) (option_map (name_of links.now.names) right) way token
+        (option_map (name_of links.now.names) name)) }
 {
     let Some(name) = name else {
         return noted_if(found, way == Direction::Either, SortRule::LooseEdge, token);
     };
-    if !matched.has(name) {
+    if !links.is_matched(name) {
         return noted_if(found, way == Direction::Either, SortRule::LooseEdge, token);
     }
     let link = LinkAt {
@@ -102,25 +71,24 @@ fn loose_edge(
         right,
         way,
     };
-    bound_link(found, matched, links, link, token)
+    bound_link(found, links, link, token)
 }
 
 // A path between its neighbours.
 fn loose_path(
     found: Option<Breach>,
-    matched: &Variables,
-    links: &[LinkAt],
+    links: &Links,
     left: Option<Sym>,
     right: Option<Sym>,
     token: u32,
     path: NameAt,
 ) -> Option<Breach>
-    ensures { result ≡ first_among found (linking.bound_if matched.now.uses (map (link_by matched.now.names) links.now)
+    ensures { result ≡ first_among found (linking.bound_if links.now.uses links.now.links
         (record {
-          name = name_of matched.now.names path.sym;
-          left = option_map (name_of matched.now.names) left;
+          name = name_of links.now.names path.sym;
+          left = option_map (name_of links.now.names) left;
           right = option_map
-              (name_of matched.now.names) right;
+              (name_of links.now.names) right;
           way = Forward;
         }) (token + 1)) }
 {
@@ -130,7 +98,7 @@ fn loose_path(
         right,
         way: Direction::Forward,
     };
-    bound_if(found, matched, links, link, token as u64 + 1)
+    bound_if(found, links, link, token as u64 + 1)
 }
 
 // The name of a node of a construct chain.
@@ -157,39 +125,33 @@ fn name_from(parts: &ConstructPartList, number: usize) -> Option<Sym>
 #[tactic(auto, unfolding(gc_ast::specs::QueryViews::part_by, gc_ast::specs::QueryViews::new_element_by))]
 fn loose_part(
     found: Option<Breach>,
-    matched: &Variables,
-    links: &[LinkAt],
+    links: &Links,
     left: Option<Sym>,
     right: Option<Sym>,
     part: &ConstructPart,
 ) -> Option<Breach>
-    ensures { result ≡ first_among found (linking.loose_part matched.now.uses (map (link_by matched.now.names) links.now)
-        (option_map (name_of matched.now.names) left) (option_map (name_of matched.now.names) right) (part_tree matched.now.names part.now)) }
+    ensures { result ≡ first_among found (linking.loose_part links.now.uses links.now.links
+        (option_map (name_of links.now.names) left) (option_map (name_of links.now.names) right) (part_tree links.now.names part.now)) }
 {
     match part {
         ConstructPart::Node(_) => found,
         ConstructPart::Edge { way, element } => {
             let token = bracket(*way, element.token as u64);
             let name = sym_if(&element.name);
-            loose_edge(found, matched, links, left, right, *way, token, name)
+            loose_edge(found, links, left, right, *way, token, name)
         }
         ConstructPart::Projected { token, name } => {
-            loose_path(found, matched, links, left, right, *token, *name)
+            loose_path(found, links, left, right, *token, *name)
         }
         ConstructPart::Stored { token, name, .. } => {
-            loose_path(found, matched, links, left, right, *token, *name)
+            loose_path(found, links, left, right, *token, *name)
         }
     }
 }
 
-fn loose_parts(
-    found: Option<Breach>,
-    matched: &Variables,
-    links: &[LinkAt],
-    parts: &ConstructPartList,
-) -> Option<Breach>
-    ensures { result ≡ first_among found (linking.loose_parts matched.now.uses (map (link_by matched.now.names) links.now) None
-        (row (map (part_tree matched.now.names) parts.now.items))) }
+fn loose_parts(found: Option<Breach>, links: &Links, parts: &ConstructPartList) -> Option<Breach>
+    ensures { result ≡ first_among found (linking.loose_parts links.now.uses links.now.links None
+        (row (map (part_tree links.now.names) parts.now.items))) }
 {
     let mut found = found;
     let mut left = None;
@@ -197,41 +159,31 @@ fn loose_parts(
     for part in parts {
         number += 1;
         let right = name_from(parts, number);
-        found = loose_part(found, matched, links, left, right, part);
+        found = loose_part(found, links, left, right, part);
         left = part_name(part);
     }
     found
 }
 
 #[tactic(auto, unfolding(gc_ast::specs::QueryViews::item_by, gc_ast::specs::QueryViews::part_by))]
-fn loose_item(
-    found: Option<Breach>,
-    matched: &Variables,
-    links: &[LinkAt],
-    item: &Item,
-) -> Option<Breach>
-    ensures { result ≡ first_among found (linking.loose_item matched.now.uses (map (link_by matched.now.names) links.now)
-        (item_tree matched.now.names item.now)) }
+fn loose_item(found: Option<Breach>, links: &Links, item: &Item) -> Option<Breach>
+    ensures { result ≡ first_among found (linking.loose_item links.now.uses links.now.links
+        (item_tree links.now.names item.now)) }
 {
     match item {
         Item::Graph(_) => found,
-        Item::Chain { parts, .. } => loose_parts(found, matched, links, parts),
+        Item::Chain { parts, .. } => loose_parts(found, links, parts),
     }
 }
 
 /// The first breach of those so far and of the links of items.
-pub(crate) fn loose_items(
-    found: Option<Breach>,
-    matched: &Variables,
-    links: &[LinkAt],
-    items: &ItemList,
-) -> Option<Breach>
-    ensures { result ≡ first_among found (each (linking.loose_item matched.now.uses (map (link_by matched.now.names) links.now))
-        (row (map (item_tree matched.now.names) items.now.items))) }
+pub(crate) fn loose_items(found: Option<Breach>, links: &Links, items: &ItemList) -> Option<Breach>
+    ensures { result ≡ first_among found (each (linking.loose_item links.now.uses links.now.links)
+        (row (map (item_tree links.now.names) items.now.items))) }
 {
     let mut found = found;
     for item in items {
-        found = loose_item(found, matched, links, item);
+        found = loose_item(found, links, item);
     }
     found
 }

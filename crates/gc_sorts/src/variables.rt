@@ -1,8 +1,9 @@
-ghost use Rattle.std.specs.Prelude.{◌≡◌, ◌++◌, ◌∷◌, [], ◌≤◌, length, map, drop, take, IfOk, OnOk};
+ghost use Rattle.std.specs.Prelude.{◌≡◌, ◌++◌, ◌∷◌, [], ◌≤◌, length, map, drop, take, nat_eq, IfOk, OnOk};
 ghost use Rattle.std.specs.Option.{option_map};
+ghost use Rattle.gc_base.specs.declared.place.Sym.{Sym as Number};
 ghost use Rattle.gc_expr.specs.Views.{name_of};
 ghost use Rattle.gc_ast.specs.Names.{same_name};
-ghost use Rattle.gc_sorts.specs.Orders.{first_place};
+ghost use Rattle.gc_sorts.specs.Orders.{first_place, slot};
 ghost use Rattle.gc_sorts.specs.Variables.{use_by, use_names, first_use, has_use};
 
 use crate::index::Index;
@@ -51,11 +52,13 @@ impl<'a> Variables<'a> {
         self.uses.len()
     }
 
-    /// Whether two numbers stand for one name.
-    pub fn same(&self, a: Sym, b: Sym) -> bool
-        ensures { result ≡ same_name (name_of self.now.names a) (name_of self.now.names b) }
+    /// The slot of a number. Another number stands for the same name exactly where it has the same slot.
+    pub fn slot(&self, name: Sym) -> usize
+        ensures slot { result ≡ slot (length self.now.names) name }
+        ensures same { (other : Number) → same_name (name_of self.now.names name) (name_of self.now.names other) ≡ nat_eq result
+            (slot (length self.now.names) other) }
     {
-        self.first.same(a, b)
+        self.first.slot(name)
     }
 
     /// Whether a variable is in scope.

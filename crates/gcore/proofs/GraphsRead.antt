@@ -13,10 +13,9 @@ use Rattle.gc_spec.specs.Coherence.{shapes_of}
 use Rattle.gc_spec.specs.PropertyGraph.{PropertyGraph}
 use Rattle.gc_catalog.specs.NamedGraphs.{NamedGraphs, is_name, number_of}
 use Rattle.gc_json.specs.FileElements.{Seen}
-use Rattle.gc_ppg.specs.FreeIds.{first_free}
 use Rattle.gcore.specs.Endings.{IsTurnOfGraph}
 use Rattle.gcore.specs.GraphSteps.{ReadsGraphs, StopsReadingGraphs, name_given}
-use Rattle.gcore.specs.Outcomes.{free_above, then_due, graph_due, graphs_due}
+use Rattle.gcore.specs.Outcomes.{then_due, graph_due, graphs_due}
 use Rattle.gcore.specs.Pairs.{has_name, names_differ, are_graphs}
 use Rattle.gcore.specs.Steps.{Reading, StopsReadingGraph}
 use Rattle.gcore.specs.declared.pair.Pair.{Pair}
@@ -129,14 +128,6 @@ stops told pairs before p after seen gs first middle last (Rejected search rule)
 stops told pairs before p after seen gs first middle last (Faulted fault) split stands due le h = absurd h
 stops told pairs before p after seen gs first middle last Unwritten split stands due le h = absurd h
 stops told pairs before p after seen gs first middle last OutOfMemory split stands due le h = tt
-
--- the identities above all of one graph more
-pub free_more : (gs : List PropertyGraph) (g : PropertyGraph) → free_above (gs ++ g ∷ []) ≡ max (free_above gs) (first_free g)
-free_more gs g = from gs 0
-  where
-    from : (hs : List PropertyGraph) (n : ℕ) → fold (λ m (h : PropertyGraph). max m (first_free h)) n (hs ++ g ∷ []) ≡ max (fold (λ m (h : PropertyGraph). max m (first_free h)) n hs) (first_free g)
-    from [] n = refl
-    from (h ∷ hs) n = from hs (max n (first_free h))
 
 -- what a step that stops for a cause answers
 pub reads_stop : (reading : Reading) (pairs : List Pair) (result : Result NamedGraphs Stop) (stop : Stop) → IsErr result → IsErrAnd result (λ refusal. refusal ≡ stop) → StopsReadingGraphs reading pairs stop → ReadsGraphs reading pairs result

@@ -2,6 +2,7 @@ pub mod CommandLaws
 pub mod EndTextLaws
 pub mod EndTextCalls
 pub mod LogLaws
+pub mod FreeAbove
 pub mod GraphsRead
 pub mod RunLaws
 pub mod MakeQueryRead

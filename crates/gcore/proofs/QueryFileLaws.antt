@@ -4,6 +4,7 @@ use Rattle.gc_base.specs.declared.place.Place.{Place}
 use Rattle.gc_lex.specs.declared.refusal.LexRefusal.{LexRefusal}
 use Rattle.gc_lex.specs.declared.refusal.LexRefusal.TheVariants as lex
 use Rattle.gc_lex.specs.Lexis.{TokenList, lexed}
+use Rattle.gc_lex.specs.declared.token.Token.{Token}
 use Rattle.gc_ast.specs.Trees.{Tree, AStatement, row}
 use Rattle.gc_grammar.specs.Queries.{SpellsFile}
 use Rattle.gc_parse.specs.declared.refusal.ParseRefusal.{ParseRefusal}
@@ -21,7 +22,13 @@ use Rattle.gcore.specs.declared.stop.Stop.TheVariants.{Sorts, Text}
 use Rattle.gcore.specs.declared.text_refusal.TextRefusal.{TextRefusal}
 use Rattle.gcore.specs.declared.text_refusal.TextRefusal.TheVariants.{TooDeep, Syntax}
 use Rattle.gcore.proofs.TextPlaces.{places_count, item_there, deep_within}
-use Rattle.gc_parse.proofs.ParsedLaws.{parsed_spelled, parsed_deep, parsed_refused, parsed_spells}
+
+-- what the parse of tokens says of them
+pub record Parses : Type 0 where
+  pub spelled : (ts : List Token) (statements : List (Tree AStatement)) → IsDepthFault ts None → SpellsFile ts statements → parsed ts ≡ Ok statements
+  pub spells : (ts : List Token) (statements : List (Tree AStatement)) → parsed ts ≡ Ok statements → IsDepthFault ts None × SpellsFile ts statements
+  pub deep : (ts : List Token) (k : ℕ) → parsed ts ≡ Err (parse.TooDeep k) → IsDepthFault ts (Some k)
+  pub refused : (ts : List Token) (k : ℕ) → parsed ts ≡ Err (parse.Syntax k) → IsRefusedAt SpellsFile ts k
 
 abbrev at_places : List Place → QueryFile → PlacedFile
 at_places places file = record { file = file; places = places }
@@ -30,7 +37,7 @@ sorted_no_text : (places : List Place) (file : QueryFile) (found : Option Breach
 sorted_no_text places file None refusal h = cc
 sorted_no_text places file (Some breach) refusal h = cc
 
-module _ (graphs : List (List ℕ)) where
+module _ (parses : Parses) (graphs : List (List ℕ)) where
   deep_parse : (names : List (List ℕ)) (places : List Place) (r : Result (List (Tree AStatement)) ParseRefusal) (place : Place) → query_file_at graphs names places r ≡ Err (Text (TooDeep place))
       → (k : ℕ) × (r ≡ Err (parse.TooDeep k)) × (token_place places k ≡ place)
   deep_parse names places (Ok statements) place h = absurd (sorted_no_text places (file_over graphs names statements) (first_breach graphs (row statements)) (TooDeep place) h)
@@ -92,7 +99,7 @@ module _ (graphs : List (List ℕ)) where
   asked_as_sorted : (text : List ℕ) (list : TokenList) (statements : List (Tree AStatement)) → lexed text ≡ Ok list → IsDepthFault list.tokens None → SpellsFile list.tokens statements
       → query_file_of graphs text ≡ sorted_at list.places (file_over graphs (names_among list.tokens) statements)
   asked_as_sorted text list statements h none spelled =
-      ap (query_file_in graphs) h ∙ ap (query_file_at graphs (names_among list.tokens) list.places) (parsed_spelled list.tokens statements none spelled)
+      ap (query_file_in graphs) h ∙ ap (query_file_at graphs (names_among list.tokens) list.places) (parses.spelled list.tokens statements none spelled)
 
   -- the laws of query files
   pub asked_as_spelled : (text : List ℕ) (list : TokenList) (statements : List (Tree AStatement)) → lexed text ≡ Ok list → IsDepthFault list.tokens None → SpellsFile list.tokens statements
@@ -110,7 +117,7 @@ module _ (graphs : List (List ℕ)) where
       × (first_breach graphs (row statements) ≡ Some breach) × (rule ≡ breach.rule) × (place ≡ breach_place list.places breach)
   broken_as_told text rule place h =
       let found = broken_tokens (lexed text) rule place h in
-      let spells = parsed_spells found.0.tokens found.1 found.4 in
+      let spells = parses.spells found.0.tokens found.1 found.4 in
       (found.0, found.1, found.2, found.3, spells.0, spells.1, found.5, found.6, found.7)
 
   pub asked_too_deep : (text : List ℕ) (place : Place) → query_file_of graphs text ≡ Err (Text (TooDeep place))
@@ -119,7 +126,7 @@ module _ (graphs : List (List ℕ)) where
       let found = deep_tokens (lexed text) place h in
       let list = found.0 in
       let k = found.2.0 in
-      let fault = parsed_deep list.tokens k found.2.1 in
+      let fault = parses.deep list.tokens k found.2.1 in
       let within = deep_within list.tokens k fault in
       let count = places_count text list found.1 in
       (list, k, found.1, item_there list.places k place first_place (omega (arith, count, within)) found.2.2, fault)
@@ -130,7 +137,7 @@ module _ (graphs : List (List ℕ)) where
       let found = refused_tokens (lexed text) place h in
       let list = found.0 in
       let k = found.2.0 in
-      let refused = parsed_refused list.tokens k found.2.1 in
+      let refused = parses.refused list.tokens k found.2.1 in
       let within = refused.0 in
       let count = places_count text list found.1 in
       (list, k, found.1, item_there list.places k place first_place (omega (arith, count, within)) found.2.2, refused)

@@ -23,7 +23,6 @@ use Rattle.gc_grammar.specs.Constructs.{assign, assigns, celement, cnode, new_ed
 use Rattle.gc_grammar.specs.Constructs as construct
 use Rattle.gc_grammar.specs.Queries.{SpellsFile, start, as_term, as_query, block, optional_block, basic, term, named_query, path_head, head, next_term, query, statement, file, where_, within}
 use Rattle.gc_query.specs.InOrder.{IsInOrder, IsNameIf, IsNameIn}
-use Rattle.gc_query.proofs.InOrderLaws.{if_wider, name_wider, order_wider}
 use Rattle.gcore.proofs.Spans.{Anywhere, HasNames, IfIn, InTurn, InTwo, Rises, Spans, Wide, anywhere, before_span, behind_span, both_span, each_span, either_span, made_spans, name_spans, next_span, parted_span, perhaps_span}
 use Rattle.gcore.proofs.Spans.{rises_alone, rises_both, rises_each, rises_either, rises_made, rises_numbered, rises_one, rises_pair, rises_parted, rises_perhaps, rising}
 
@@ -68,7 +67,13 @@ regex_rises = record { rises = λ p q ts e s. (within_rises s.0).rises p q ts e 
 angled_rises : Rises angled
 angled_rises = rises_made (rises_pair (rises_pair rises_one regex_rises) rises_one)
 
-module _ (names : Names) where
+-- what stands in order between two numbers stands so between wider ones
+pub record Widens : Type 0 where
+  pub order : (names : Names) (k : Kind) (low from upto high : ℕ) (t : Tree k) → low ≤ from → upto ≤ high → IsInOrder names from t upto → IsInOrder names low t high
+  pub named : (names : Names) (low from upto high : ℕ) (x : Named) → low ≤ from → upto ≤ high → IsNameIn names from x upto → IsNameIn names low x high
+  pub perhaps : (names : Names) (low from upto high : ℕ) (o : Option Named) → low ≤ from → upto ≤ high → IsNameIf names from o upto → IsNameIf names low o high
+
+module _ (widens : Widens) (names : Names) where
   abbrev Order : {k : Kind} → ℕ → Tree k → ℕ → Type 0
   Order from t upto = IsInOrder names from t upto
 
@@ -76,10 +81,10 @@ module _ (names : Names) where
   Name from x upto = IsNameIn names from x upto
 
   order_wide : {k : Kind} → Wide (Order {k = k})
-  order_wide = record { wider = λ low from upto high t l h n. order_wider names low from upto high t l h n }
+  order_wide = record { wider = λ low from upto high t l h n. widens.order names _ low from upto high t l h n }
 
   name_wide : Wide Name
-  name_wide = record { wider = λ low from upto high x l h n. name_wider names low from upto high x l h n }
+  name_wide = record { wider = λ low from upto high x l h n. widens.named names low from upto high x l h n }
 
   anywhere_wide : {A : Type 0} → Wide (Anywhere {A = A})
   anywhere_wide = record { wider = λ low from upto high a l h n. omega (arith, l, h, n) }
@@ -111,8 +116,8 @@ module _ (names : Names) where
   element_wide = record {
     wider = λ low from upto high e l h n. record {
       mid = n.mid;
-      named = if_wider names low from n.mid n.mid e.name l (omega arith) n.named;
-      properties = order_wider names n.mid n.mid upto high (row e.properties) (omega arith) h n.properties;
+      named = widens.perhaps names low from n.mid n.mid e.name l (omega arith) n.named;
+      properties = widens.order names _ n.mid n.mid upto high (row e.properties) (omega arith) h n.properties;
     };
   }
 
@@ -121,7 +126,7 @@ module _ (names : Names) where
 
   property_spans : Spans names property_use Order
   unfolding IsInOrder
-  property_spans = made_spans Order (both_span (anywhere rises_one) (behind_span name_wide rises_one (name_spans))) (λ from upto v up h. name_wider names from h.mid upto upto v.1 h.low (omega arith) h.second)
+  property_spans = made_spans Order (both_span (anywhere rises_one) (behind_span name_wide rises_one (name_spans))) (λ from upto v up h. widens.named names from h.mid upto upto v.1 h.low (omega arith) h.second)
 
   properties_span : Spans names property_uses (InTurn Order)
   properties_span = before_span (turn_wide order_wide) (behind_span (turn_wide order_wide) rises_one (parted_span order_wide rises_one property_spans)) rises_one
@@ -137,7 +142,7 @@ module _ (names : Names) where
       (λ from upto v up h. record {
         mid = h.mid;
         named = if_name from h.mid v.0 h.first;
-        properties = order_wider names h.mid h.second.mid upto upto (row (listed v.1.1)) h.second.low (omega arith) (listed_order h.second.mid upto v.1.1 h.second.second);
+        properties = widens.order names _ h.mid h.second.mid upto upto (row (listed v.1.1)) h.second.low (omega arith) (listed_order h.second.mid upto v.1.1 h.second.second);
       })
 
   -- an element whose pattern begins one token before
@@ -173,7 +178,7 @@ module _ (names : Names) where
 
   body_wide : Wide BodyIn
   unfolding BodyIn
-  body_wide = record { wider = λ low from upto high v l h n. order_wider names low from upto high v.1 l h n }
+  body_wide = record { wider = λ low from upto high v l h n. widens.order names _ low from upto high v.1 l h n }
 
   count_rises : Rises count
   count_rises = rises_made (rises_pair rises_one rises_one)
@@ -189,12 +194,12 @@ module _ (names : Names) where
       let inner = h.second in
       let late = inner.second in (
         inner.mid,
-        name_wider names from h.mid inner.mid inner.mid v.1.0 h.low (omega arith) inner.first,
-        if_wider names inner.mid late.mid upto upto v.1.1.1 late.low (omega arith) (if_name late.mid upto v.1.1.1 late.second),
+        widens.named names from h.mid inner.mid inner.mid v.1.0 h.low (omega arith) inner.first,
+        widens.perhaps names inner.mid late.mid upto upto v.1.1.1 late.low (omega arith) (if_name late.mid upto v.1.1.1 late.second),
       )))
       (either_span
-      (made_spans BodyIn (both_span (behind_span name_wide rises_one (name_spans)) (anywhere angled_rises)) (λ from upto v up h. name_wider names from from h.mid upto v.0 (omega arith) h.high h.first))
-      (made_spans BodyIn (both_span (behind_span name_wide rises_one (name_spans)) (anywhere (rises_each labels_rise))) (λ from upto v up h. name_wider names from from h.mid upto v.0 (omega arith) h.high h.first))))
+      (made_spans BodyIn (both_span (behind_span name_wide rises_one (name_spans)) (anywhere angled_rises)) (λ from upto v up h. widens.named names from from h.mid upto v.0 (omega arith) h.high h.first))
+      (made_spans BodyIn (both_span (behind_span name_wide rises_one (name_spans)) (anywhere (rises_each labels_rise))) (λ from upto v up h. widens.named names from from h.mid upto v.0 (omega arith) h.high h.first))))
 
   path_spans : Spans names path Order
   unfolding BodyIn IsInOrder
@@ -302,14 +307,14 @@ module _ (names : Names) where
 
     new_wide : Wide NewIn
     unfolding NewIn
-    new_wide = record { wider = λ low from upto high e l h n. if_wider names low from upto high e.name l h n }
+    new_wide = record { wider = λ low from upto high e l h n. widens.perhaps names low from upto high e.name l h n }
 
     new_spans : Spans names (celement inside) NewIn
     unfolding NewIn
     new_spans =
         made_spans NewIn
         (both_span (perhaps_span (name_spans)) (anywhere (rises_both (rises_perhaps (rises_pair rises_one name_rises)) (rises_both (rises_perhaps group_rises) (rises_both (rises_each label_rise) assigns_rise)))))
-        (λ from upto v up h. if_wider names from from h.mid upto v.0 (omega arith) h.high (if_name from h.mid v.0 h.first))
+        (λ from upto v up h. widens.perhaps names from from h.mid upto v.0 (omega arith) h.high (if_name from h.mid v.0 h.first))
 
     new_placed : (from upto : ℕ) (e : construct.Unplaced) → NewIn (from + 1) e upto → Order from (construct.placed from e) upto
     unfolding NewIn IsInOrder
@@ -338,7 +343,7 @@ module _ (names : Names) where
 
     stored_wide : {B : Type 0} → Wide (StoredIn {B = B})
     unfolding StoredIn
-    stored_wide = record { wider = λ low from upto high v l h n. name_wider names low from upto high v.0 l h n }
+    stored_wide = record { wider = λ low from upto high v l h n. widens.named names low from upto high v.0 l h n }
 
     stored_spans : Spans names (new_stored inside) Order
     unfolding StoredIn IsInOrder
@@ -349,7 +354,7 @@ module _ (names : Names) where
         (λ from upto v up h. h)
       where
         made_stored : {B : Type 0} {L : Lang (Named × B)} → Spans names L (InTwo Name Anywhere) → Spans names L StoredIn
-        made_stored l = record { up = l.up; spans = λ p q ts v s h. let two = l.spans p q ts v s h in name_wider names p.token p.token two.mid q.token v.0 (omega arith) two.high two.first }
+        made_stored l = record { up = l.up; spans = λ p q ts v s h. let two = l.spans p q ts v s h in widens.named names p.token p.token two.mid q.token v.0 (omega arith) two.high two.first }
 
     new_link_spans : Spans names (clink inside) Order
     new_link_spans = either_span new_edge_spans (either_span projected_spans stored_spans)
@@ -389,14 +394,14 @@ module _ (names : Names) where
     -- a query as a term, and a term as a query
     as_term_order : (from upto : ℕ) (q : Tree AQuery) → Order from q upto → Order from (as_term q) upto
     unfolding IsInOrder
-    as_term_order from upto (tree.Query tree.none first tree.none) h = order_wider names from h.0 h.1 upto first h.2 h.4 h.3
+    as_term_order from upto (tree.Query tree.none first tree.none) h = widens.order names _ from h.0 h.1 upto first h.2 h.4 h.3
     as_term_order from upto (tree.Query tree.none first (tree.more t ts)) h = h
     as_term_order from upto (tree.Query (tree.more t ts) first rest) h = h
 
     as_query_order : (from mid late upto : ℕ) (heads : List (Tree AHead)) (first : Tree ATerm) (rest : List (Tree ANextTerm)) → Order from (row heads) mid → Order mid first late → Order late (row rest) upto
         → Order from (as_query heads first rest) upto
     unfolding IsInOrder
-    as_query_order from mid late upto [] (tree.QueryTerm q) [] h f r = order_wider names from mid late upto q h r f
+    as_query_order from mid late upto [] (tree.QueryTerm q) [] h f r = widens.order names _ from mid late upto q h r f
     as_query_order from mid late upto [] (tree.QueryTerm q) (t ∷ ts) h f r = (mid, late, h, f, r)
     as_query_order from mid late upto [] (tree.BasicTerm b) rest h f r = (mid, late, h, f, r)
     as_query_order from mid late upto [] (tree.GraphTerm g) rest h f r = (mid, late, h, f, r)
@@ -414,14 +419,14 @@ module _ (names : Names) where
 
     named_wide : Wide NamedIn
     unfolding NamedIn
-    named_wide = record { wider = λ low from upto high v l h n. order_wider names low from upto high v.1 l h n }
+    named_wide = record { wider = λ low from upto high v l h n. widens.order names _ low from upto high v.1 l h n }
 
     named_spans : Spans names (named_query inside) NamedIn
     unfolding NamedIn
     named_spans = in_two (both_span (anywhere name_rises) (behind_span order_wide rises_one (before_span order_wide (behind_span order_wide rises_one queries) rises_one)))
       where
         in_two : Spans names (named_query inside) (InTwo Anywhere Order) → Spans names (named_query inside) NamedIn
-        in_two l = record { up = l.up; spans = λ p q ts v s h. let two = l.spans p q ts v s h in order_wider names p.token two.mid q.token q.token v.1 two.low (omega arith) two.second }
+        in_two l = record { up = l.up; spans = λ p q ts v s h. let two = l.spans p q ts v s h in widens.order names _ p.token two.mid q.token q.token v.1 two.low (omega arith) two.second }
 
     path_head_rises : Rises (path_head inside)
     path_head_rises =
@@ -439,7 +444,7 @@ module _ (names : Names) where
     next_spans : Spans names (next_term inside) Order
     unfolding IsInOrder
     next_spans =
-        made_spans Order (both_span (anywhere (rises_either word_rises (rises_either word_rises word_rises))) term_spans) (λ from upto v up h. order_wider names from h.mid upto upto v.1 h.low (omega arith) h.second)
+        made_spans Order (both_span (anywhere (rises_either word_rises (rises_either word_rises word_rises))) term_spans) (λ from upto v up h. widens.order names _ from h.mid upto upto v.1 h.low (omega arith) h.second)
 
     pub query_spans : Spans names (query inside) Order
     query_spans =
@@ -501,8 +506,8 @@ has_names names (t ∷ ts) w m free =
     (cons_cases t ts (Word w) m)
 
 -- the statements that tokens spell
-pub spelled_order : (ts : List Token) (statements : List (Tree AStatement)) → SpellsFile ts statements → (upto : ℕ) × IsInOrder (names_among ts) 0 (row statements) upto
-spelled_order ts statements s =
+pub spelled_order : Widens → (ts : List Token) (statements : List (Tree AStatement)) → SpellsFile ts statements → (upto : ℕ) × IsInOrder (names_among ts) 0 (row statements) upto
+spelled_order widens ts statements s =
     let names = names_among ts in
-    let inner = within_spans names s.1.0 in
-    (s.0.token, row_order names 0 s.0.token statements ((file_spans names (within s.1.0) inner.0 inner.1).spans start s.0 ts statements s.1.1 (has_names [] ts)))
+    let inner = within_spans widens names s.1.0 in
+    (s.0.token, row_order widens names 0 s.0.token statements ((file_spans widens names (within s.1.0) inner.0 inner.1).spans start s.0 ts statements s.1.1 (has_names [] ts)))

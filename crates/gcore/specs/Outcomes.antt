@@ -1,17 +1,16 @@
 -- The outcome of a call: what it is asked and the texts that answer it, or the stop that is due.
-use Rattle.std.specs.Prelude.{◌≡◌, ℕ, List, [], ◌∷◌, ◌++◌, fold, length, map, max, nat_lt, if◌then◌else◌, Some, None, Option, Result, Ok, Err}
+use Rattle.std.specs.Prelude.{◌≡◌, ℕ, ◌+◌, List, [], ◌∷◌, ◌++◌, fold, length, map, max, nat_lt, if◌then◌else◌, Some, None, Option, Result, Ok, Err}
 use Rattle.std.specs.List.{flat_map}
 use Rattle.gc_base.specs.Files.{Files, file_of}
 use Rattle.gc_base.specs.declared.place.MakeKind.{MakeKind}
 use Rattle.gc_spec.specs.Coherence.{shapes_of}
-use Rattle.gc_spec.specs.PropertyGraph.{PropertyGraph}
+use Rattle.gc_spec.specs.PropertyGraph.{PropertyGraph, ids_of}
 use Rattle.gc_json.specs.CanonicalText.{canonical_text}
 use Rattle.gc_json.specs.FileElements.{Seen}
 use Rattle.gc_json.specs.GraphFiles.{file_graph}
 use Rattle.gc_json.specs.declared.refusal.GraphRefusal.{GraphRefusal}
 use Rattle.gc_lower.specs.Namings.{scope_in}
 use Rattle.gc_make.specs.MadeGraphs.{made}
-use Rattle.gc_ppg.specs.FreeIds.{first_free}
 use Rattle.gc_query.specs.Sessions.{Session, Begins}
 use Rattle.gc_query.specs.Standings.{Standing}
 use Rattle.gc_query.specs.declared.fault.Fault.{Fault}
@@ -88,9 +87,9 @@ session_over graphs query = record { graphs = graphs; query = query; style = Tex
 abbrev pub request : List PropertyGraph → PlacedFile → Result Request Stop
 request graphs query = Ok (session_over graphs query)
 
--- the first identity above all of some graphs, or 0 where they have no element
+-- the first identity above all of some graphs, or 0 where they have no element: the greatest of the numbers behind their identities
 abbrev pub free_above : List PropertyGraph → ℕ
-free_above graphs = fold (λ n g. max n (first_free g)) 0 graphs
+free_above graphs = fold max 0 (map (λ id. id + 1) (flat_map ids_of graphs))
 
 -- a session begins over the loaded graphs, and identities are free above all of theirs
 abbrev pub beginning : List PropertyGraph → Standing

@@ -2,8 +2,8 @@ ghost use Rattle.std.specs.Prelude.{◌≡◌, ◌≤◌, ◌++◌, ◌∷◌, [
 ghost use Rattle.std.specs.List.{AllByRecursion};
 ghost use Rattle.gc_spec.specs.Coherence.{AreCoherent};
 ghost use Rattle.gc_catalog.specs.NamedGraphs.{number_of};
-ghost use Rattle.gc_ppg.specs.FreeIds.{first_free};
 ghost use Rattle.gcore.specs.GraphSteps.{ReadsGraphs};
+ghost use Rattle.gcore.specs.Outcomes.{free_above};
 ghost use Rattle.gcore.specs.Pairs.{names_differ};
 ghost use Rattle.gcore.specs.Steps.{Reading};
 
@@ -13,7 +13,7 @@ use crate::stop::Stop;
 use gc_base::{Duplicate, Memory, Name};
 use gc_catalog::{AddRefusal, Catalog};
 use gc_io::Folder;
-use gc_ppg::{Coherence, Graph};
+use gc_ppg::{Coherence, Graph, a_graph_that_agrees_is_coherent};
 use std::alloc::Global;
 
 /// The catalog of graph files, one after another, each beside what identities stand for in the
@@ -34,6 +34,7 @@ pub fn read_graphs<F: Folder>(
     for pair in pairs {
         let graph = read_graph(alloc, folder, &pair.file, &seen)?;
         seen.add(&graph)?;
+        a_graph_that_agrees_is_coherent();
         add_loaded(&mut catalog, &pair.name, graph)?;
     }
     Ok(catalog)
@@ -45,7 +46,7 @@ pub fn add_loaded(catalog: &mut Catalog, name: &Name, graph: Graph) -> Result<()
     requires fresh { number_of catalog.old.names name.now ≡ None }
     ensures graphs { OnOk result (catalog.new.graphs ≡ catalog.old.graphs ++ graph ∷ []) }
     ensures names { OnOk result (catalog.new.names ≡ catalog.old.names ++ Some name.now ∷ []) }
-    ensures next { OnOk result (catalog.new.next ≡ max catalog.old.next (first_free graph)) }
+    ensures next { OnOk result (catalog.new.next ≡ max catalog.old.next (free_above (graph ∷ []))) }
 {
     let free = catalog.next().max(graph.first_free());
     catalog.set_next(free);

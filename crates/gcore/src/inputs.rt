@@ -6,6 +6,7 @@ ghost use Rattle.gc_query.specs.Built.{AreBuilt};
 ghost use Rattle.gcore.specs.Outcomes.{accepted, file_due, graph_due, query_file_due};
 ghost use Rattle.gcore.specs.Steps.{Accepts, Reads, ReadsGraph, ReadsQuery, Reading};
 
+use crate::laws::a_query_file_that_is_read_is_built;
 use crate::query_file::query_file;
 use crate::stop::Stop;
 use gc_base::{Bytes, Duplicate, NameList, Str};
@@ -67,6 +68,7 @@ pub fn read_query<F: Folder>(
     ensures kept { F.files folder.new ≡ F.files folder.old }
 {
     let bytes = read_file(alloc, folder, name, QUERY_LIMIT)?;
+    a_query_file_that_is_read_is_built();
     query_file(alloc, bytes.as_slice(), graphs)
 }
 

@@ -24,6 +24,10 @@ ghost use Rattle.gcore.specs.declared.stop.Stop.TheVariants.{Sorts, Text};
 ghost use Rattle.gcore.specs.declared.text_refusal.TextRefusal.TheVariants.{TooDeep, Syntax};
 
 use gc_cert_text::written_certificates_read_back;
+use gc_parse::a_parse_is_what_tokens_spell;
+use gc_query::{
+    a_file_that_breaks_no_rule_is_built, what_is_in_order_is_so_between_wider_numbers,
+};
 
 /// A query file asks what the statements ask that its tokens spell, where their brackets are not too
 /// deep and they break no sort rule over the names of the graphs. Else it is told which rule is broken
@@ -44,7 +48,9 @@ pub fn a_query_file_asks_what_its_tokens_spell()
         (k : ℕ) × (lexed text ≡ Ok list) × (slice_get list.places k ≡ Some place) × IsDepthFault list.tokens (Some k) }
     ensures refused { (graphs : List (List ℕ)) (text : List ℕ) (place : Place) → query_file_of graphs text ≡ Err (Text (Syntax place)) → (list : TokenList)
         × (k : ℕ) × (lexed text ≡ Ok list) × (slice_get list.places k ≡ Some place) × IsRefusedAt SpellsFile list.tokens k }
-{}
+{
+    a_parse_is_what_tokens_spell();
+}
 
 /// No juxtaposition in a regular path expression of a file that tokens spell is of no parts, and its names and elements
 /// stand in the order of the text, with names of its table. So a query file that is read is built: each expression by
@@ -53,7 +59,11 @@ pub fn a_query_file_that_is_read_is_built()
     ensures parts { (ts : List Token) (statements : List (Tree AStatement)) → SpellsFile ts statements → EachHasParts (row statements) }
     ensures order { (ts : List Token) (statements : List (Tree AStatement)) → SpellsFile ts statements → (upto : ℕ) × IsInOrder (names_among ts) 0 (row statements) upto }
     ensures built { (graphs : List (List ℕ)) (text : List ℕ) (query : PlacedFile) → query_file_of graphs text ≡ Ok query → AreBuilt query.file }
-{}
+{
+    a_parse_is_what_tokens_spell();
+    what_is_in_order_is_so_between_wider_numbers();
+    a_file_that_breaks_no_rule_is_built();
+}
 
 /// What `cert` writes is accepted by `check`, with each of its searches, where these can be written so that they read
 /// back: each graph has at most 1,000,000 elements, each expression has at most 1,024 states and parentheses at most 64

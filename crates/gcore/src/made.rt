@@ -9,6 +9,7 @@ ghost use Rattle.gcore.specs.QueryFiles.{placed, query_file_of};
 ghost use Rattle.gcore.specs.declared.stop.Stop.TheVariants.{OutOfMemory};
 
 use crate::graphs::add_loaded;
+use crate::laws::a_query_file_that_is_read_is_built;
 use crate::query_file::query_file;
 use crate::session::run_session;
 use crate::stop::Stop;
@@ -110,6 +111,7 @@ fn made_query(alloc: Global) -> Result<Checked, Memory>
 {
     let mut names = NameList::new(alloc);
     names.push(made_name(alloc)?)?;
+    a_query_file_that_is_read_is_built();
     match query_file(alloc, MAKE_QUERY, &names) {
         Ok(checked) => Ok(checked),
         Err(stop) => Err(want_of(stop)),

@@ -14,6 +14,6 @@ loop-place-preserved g c =
     let d = c.in_ok-described_at.field-0 in
     let so =
     described_by s r c.args.numbering.now.variables v elements place e d c.args.said.now c.changes_of-changes.result
-    c.requires c.changes_of-changes.ensures c.elements_of-elements.ensures c.loop-place-test.true c.index-elements-place.is c.in_ok-described_at.ensures in
+    c.requires.said c.changes_of-changes.ensures c.elements_of-elements.ensures c.loop-place-test.true c.index-elements-place.is c.in_ok-described_at.ensures in
     map_with (described s r v) c.loop-place.all c.push.new.self elements place e d
     c.loop-place-test.true c.index-elements-place.is c.loop-place.invariant so c.in_ok-push.ensures.ok

@@ -18,4 +18,4 @@ returns g c =
     let copied : regex_tree c.in_ok-copy.field-0 ≡ regex_tree c.expression.inside.0 = c.in_ok-copy.ensures in
     doc_from setting c.nodes.ensures.network tree asked.parts asked.automaton c.args.source c.requires.source c.in_ok-found.found (found.conform tree asked.parts asked.automaton) found.passed
     found.potentials found.last found.low ids c.nodes.ensures.nodes (subst (Ascends nat_cmp) (sym c.nodes.ensures.nodes) c.nodes.ensures.ascend) c.args.targets.now _ (copied ∙ c.expression.view_is)
-    (asked.network ∙ (λ j. record { graph = sym c.in_ok-copy-2.ensures j; segments = sym c.in_ok-copy-3.ensures j })) refl (c.potentials.view_is ∙ listed) c.in_ok-walks.ensures
+    (asked.network ∙ (λ j. record { graph = sym c.in_ok-copy-2.ensures.same j; segments = sym c.in_ok-copy-3.ensures j })) refl (c.potentials.view_is ∙ listed) c.in_ok-walks.ensures

@@ -1,7 +1,7 @@
 use Rattle.std.proofs.Common.{◌≡◌}
 use Rattle.serde_json.specs.View.{members_view}
 use Rattle.gc_json.specs.PropertyMembers.{properties_among}
-use Rattle.gc_json.proofs.Gathered.{properties_with}
+use Rattle.gc_json.proofs.GatheredProperties.{properties_with}
 use Rattle.gc_json.proofs.properties.properties_in.Given as goal
 
 -- the properties so far with the rest are the properties of all

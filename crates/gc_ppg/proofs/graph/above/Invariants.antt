@@ -1,5 +1,5 @@
 use Rattle.std.proofs.Common.{◌≡◌, map, drop}
-use Rattle.gc_ppg.specs.FreeIds.{above}
+use Rattle.gc_ppg.proofs.FreeIds.{above}
 use Rattle.gc_ppg.proofs.graph.above.Given as goal
 
 -- what is above those so far, and above the rest, is above all

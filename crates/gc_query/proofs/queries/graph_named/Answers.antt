@@ -10,12 +10,12 @@ use Rattle.gc_query.proofs.queries.graph_named.Goals as goal
 
 pub returns-clause-due : goal.returns-clause-due
 unfolding scope_at
-returns-clause-due c =
+returns-clause-due g c =
     let by_number : ℕ → Result Made Fault = λ number. Ok (record { graph = graph_of_number c.args.graphs.now number; next = c.args.next }) in
     let by_graph : PropertyGraph → Result Made Fault = λ g. Ok (record { graph = g; next = c.args.next }) in
     ap by_graph c.in_ok-graph.ensures
     ∙ ap by_number (c.unwrap_or-number.ensures ∙ ap (λ (found : Option ℕ). unwrap_or found 0) c.graph_at.ensures)
 
 pub returns-clause-comes : goal.returns-clause-comes
-returns-clause-comes c =
+returns-clause-comes g c =
     subst (λ (g : PropertyGraph). ComesFrom c.args.graphs.now c.args.next c.args.next g) (sym c.in_ok-graph.ensures) (number_comes c.args.graphs.now c.unwrap_or-number.result c.args.next)

@@ -2,19 +2,18 @@ use Rattle.std.proofs.Common.{◌≡◌, ◌+◌, ◌++◌, [], ◌∷◌, lengt
 use Rattle.gc_base.specs.Files.{Files}
 use Rattle.gc_spec.specs.Coherence.{shapes_of}
 use Rattle.gc_ppg.specs.Shapes.{graph_agrees}
-use Rattle.gc_ppg.proofs.Agreement.{coherent_with_each}
 use Rattle.gc_catalog.specs.NamedGraphs.{number_of}
-use Rattle.gc_ppg.specs.FreeIds.{first_free}
 use Rattle.gcore.specs.Outcomes.{free_above}
 use Rattle.gcore.specs.GraphSteps.{ReadsGraphs, name_given}
 use Rattle.gcore.specs.Pairs.{names_differ}
 use Rattle.gcore.specs.declared.stop.Stop.TheVariants.{OutOfMemory}
-use Rattle.gcore.proofs.GraphsRead.{free_more, take_item, around_item, gained, stops, reads_stop, length_more, map_more, not_yet}
+use Rattle.gcore.proofs.FreeAbove.{free_more}
+use Rattle.gcore.proofs.GraphsRead.{take_item, around_item, gained, stops, reads_stop, length_more, map_more, not_yet}
 use Rattle.gcore.proofs.graphs.read_graphs.Goals as goal
 
 pub add_loaded-requires-clause-coherent : goal.add_loaded-requires-clause-coherent
 add_loaded-requires-clause-coherent g c =
-    coherent_with_each c.loop-pair.catalog.graphs c.in_ok-graph.graph (subst (λ seen. graph_agrees seen c.in_ok-graph.graph ≡ true) c.loop-pair.invariant.seen c.in_ok-graph.ensures.agrees)
+    c.a_graph_that_agrees_is_coherent.ensures c.loop-pair.catalog.graphs c.in_ok-graph.graph (subst (λ seen. graph_agrees seen c.in_ok-graph.graph ≡ true) c.loop-pair.invariant.seen c.in_ok-graph.ensures.agrees)
 
 pub add_loaded-requires-clause-fresh : goal.add_loaded-requires-clause-fresh
 add_loaded-requires-clause-fresh g c =
@@ -53,7 +52,7 @@ loop-pair-preserved g c =
           c.in_ok-graph.ensures.kept more longer inv.seen inv.due c.in_ok-graph.ensures.outcome;
       names = c.in_ok-add_loaded.ensures.names
           ∙ (ap (λ names. names ++ name_given pair ∷ []) inv.names ∙ (map_more name_given (take i pairs) pair ∙ ap (map name_given) (sym more)));
-      next = c.in_ok-add_loaded.ensures.next ∙ (ap (λ n. max n (first_free graph)) inv.next ∙ (sym (free_more graphs graph) ∙ ap free_above (sym longer)));
+      next = c.in_ok-add_loaded.ensures.next ∙ (ap (λ n. max n (free_above (graph ∷ []))) inv.next ∙ (sym (free_more graphs graph) ∙ ap free_above (sym longer)));
       count = ap length longer ∙ (length_more graphs graph ∙ ap (λ n. n + 1) inv.count);
       seen = c.in_ok-add.ensures.ok ∙ (ap (λ s. s ++ shapes_of graph ∷ []) inv.seen ∙ (map_more shapes_of graphs graph ∙ ap (map shapes_of) (sym longer)));
       later = omega (arith, inv.later, c.in_ok-graph.ensures.later);

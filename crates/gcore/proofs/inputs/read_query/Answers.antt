@@ -38,5 +38,5 @@ returns-clause-outcome g c =
 
 pub returns-clause-built : goal.returns-clause-built
 returns-clause-built g c =
-    file_is_built c.args.graphs.now c.in_ok-bytes.bytes c.query_file.result
+    file_is_built c.a_query_file_that_is_read_is_built.ensures.built c.args.graphs.now c.in_ok-bytes.bytes c.query_file.result
     (subst (λ (bytes : List ℕ). IsFileOf (query_file_of c.args.graphs.now bytes) c.query_file.result) c.as_slice.ensures c.query_file.ensures)

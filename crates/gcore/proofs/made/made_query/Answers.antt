@@ -11,7 +11,7 @@ returns-in-Ok-clause-file c =
 
 pub returns-in-Ok-clause-built : goal.returns-in-Ok-clause-built
 unfolding make_query
-returns-in-Ok-clause-built c = file_is_built (made_name ∷ []) make_query (Ok c.in-Ok.checked)
+returns-in-Ok-clause-built c = file_is_built c.a_query_file_that_is_read_is_built.ensures.built (made_name ∷ []) make_query (Ok c.in-Ok.checked)
     (read_over c.push.new.self c.new-names.result c.in_ok-made_name.field-0 make_query (Ok c.in-Ok.checked) c.in_ok-push.ensures.ok c.new-names.ensures c.in_ok-made_name.ensures refl c.in-Ok.ensures)
 
 pub want_of-requires : goal.want_of-requires

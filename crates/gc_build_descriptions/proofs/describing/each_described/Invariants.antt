@@ -1,6 +1,6 @@
 use Rattle.std.proofs.Common.{◌≡◌, map, take}
 use Rattle.gc_build_descriptions.specs.Described.{described_variable}
-use Rattle.gc_build_descriptions.proofs.describing.all_described.Given as goal
+use Rattle.gc_build_descriptions.proofs.describing.each_described.Given as goal
 
 -- the variables so far
 abbrev pub invariant-loop-variable : goal.invariant-loop-variable
