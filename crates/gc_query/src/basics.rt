@@ -54,12 +54,7 @@ pub(crate) fn basic_made<L: Ledger>(
     ensures told { OnOk result (Tells (scope_in session.now)
         (EvaluatesBasic (scope_in session.now) named.now.names graphs.now (basic_tree (names_in session.now) basic.now)) told.old told.new) }
 {
-    let lowered = lower(
-        session.alloc,
-        session.checked,
-        AskedBlock::Match(basic),
-        0,
-    )?;
+    let lowered = lower(session.alloc, session.checked, AskedBlock::Match(basic), 0)?;
     let segments = segments_used(session, graphs, &lowered.block, steps)?;
     let table = table_of(session.alloc, graphs, &segments, &lowered.block, steps)?;
     tell(

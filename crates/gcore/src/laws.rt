@@ -25,9 +25,7 @@ ghost use Rattle.gcore.specs.declared.text_refusal.TextRefusal.TheVariants.{TooD
 
 use gc_cert_text::written_certificates_read_back;
 use gc_parse::a_parse_is_what_tokens_spell;
-use gc_query::{
-    a_file_that_breaks_no_rule_is_built, what_is_in_order_is_so_between_wider_numbers,
-};
+use gc_query::{a_file_that_breaks_no_rule_is_built, what_is_in_order_is_so_between_wider_numbers};
 
 /// A query file asks what the statements ask that its tokens spell, where their brackets are not too
 /// deep and they break no sort rule over the names of the graphs. Else it is told which rule is broken
