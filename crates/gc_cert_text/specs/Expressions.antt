@@ -1,32 +1,17 @@
 -- The expressions of a certificate.
-use Rattle.std.specs.Prelude.{ℕ, ◌+◌, Bool, nat_le, List, [], ◌∷◌, length, Option, Some, None}
+use Rattle.std.specs.Prelude.{ℕ, Bool, nat_le, List, Option}
 use Rattle.gc_automata.specs.Automata.{automaton_of}
-use Rattle.gc_grammar.specs.Queries.{start}
-use Rattle.gc_grammar.specs.Regexes.{Expression}
 use Rattle.gc_lex.specs.Lexis.{lexed}
 use Rattle.gc_lex.specs.declared.token.Token.{Token}
-use Rattle.gc_parse.specs.Depths.{depth_fault_in}
-use Rattle.gc_parse_readers.specs.Readers.{Reading, Got, Stuck}
-use Rattle.gc_parse_readers.specs.RegexReaders.{read_regex}
+use Rattle.gc_parse.specs.Parses.{parsed_regex}
 use Rattle.gc_regx.specs.Trees.{RegexTree, ARegex}
 use Rattle.serde_json.specs.Data.{Data}
 use Rattle.serde_json.specs.Find.{as_str}
 use Rattle.gc_cert_text.specs.Options.{◌>>=◌, found, if_so}
 
--- the expression that a reading has found, where no token is left
-abbrev pub whole_expression : Reading Expression → Option (RegexTree ARegex)
-whole_expression (Got e end []) = Some e.tree
-whole_expression (Got e end (token ∷ rest)) = None
-whole_expression (Stuck k) = None
-
--- where brackets are not too deep, a reading counts
-abbrev pub unless_deep : {A : Type 0} → Option ℕ → Option A → Option A
-unless_deep None due = due
-unless_deep (Some k) due = None
-
 -- the expression that tokens spell
 unfoldable pub tree_of_tokens : List Token → Option (RegexTree ARegex)
-tree_of_tokens ts = unless_deep (depth_fault_in ts) (whole_expression (read_regex (length ts + 1) start ts))
+tree_of_tokens ts = found (parsed_regex ts)
 
 -- whether its automaton has at most 1,024 states
 abbrev pub is_small : RegexTree ARegex → Bool

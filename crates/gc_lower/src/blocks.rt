@@ -90,7 +90,8 @@ fn queries_of(
     naming: &Naming<'_>,
     around: &[ReadUse],
 ) -> Result<ExistsList, Memory>
-    ensures { IfOk result (λ list. map exists_tree list.items ≡ queries_of (scope naming.now) around.now (row (map (query_tree (names_of naming.now)) queries.now))) }
+    ensures { IfOk result (λ list. map exists_tree list.items ≡ queries_of (scope naming.now) around.now
+        (row (map (query_tree (names_of naming.now)) queries.now))) }
 {
     let mut lowered = Vec::with_capacity(alloc, queries.len())?;
     for query in queries {

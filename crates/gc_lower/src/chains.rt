@@ -42,7 +42,8 @@ pub(crate) fn view_atoms(
     naming: &Naming<'_>,
     chains: &ChainList,
 ) -> Result<AtomList, Memory>
-    ensures { IfOk result (λ atoms. atoms.items ≡ view_atoms (scope naming.now) (rows (map (λ c. map (pattern_tree (names_of naming.now)) c.parts) chains.now))) }
+    ensures { IfOk result (λ atoms. atoms.items ≡ view_atoms (scope naming.now)
+        (rows (map (λ c. map (pattern_tree (names_of naming.now)) c.parts) chains.now))) }
 {
     let mut atoms = Vec::new(alloc);
     let graph = naming.graph_of(&None);
@@ -59,7 +60,8 @@ fn add_chain(
     graph: u32,
     parts: &PatternList,
 ) -> Result<(), Memory>
-    ensures { OnOk result (atoms.new.items ≡ atoms.old.items ++ chain_atoms (scope naming.now) graph None (row (map (pattern_tree (names_of naming.now)) parts.now))) }
+    ensures { OnOk result (atoms.new.items ≡ atoms.old.items ++ chain_atoms (scope naming.now) graph None
+        (row (map (pattern_tree (names_of naming.now)) parts.now))) }
 {
     let parts = parts.as_slice();
     let mut left = None;
@@ -78,7 +80,8 @@ fn add_part(
     spot: Spot,
     part: &Pattern,
 ) -> Result<(), Memory>
-    ensures { OnOk result (atoms.new.items ≡ atoms.old.items ++ part_atoms (scope naming.now) spot.graph spot.left spot.right (pattern_tree (names_of naming.now) part.now)) }
+    ensures { OnOk result (atoms.new.items ≡ atoms.old.items ++ part_atoms (scope naming.now) spot.graph spot.left spot.right
+        (pattern_tree (names_of naming.now) part.now)) }
 {
     match part {
         Pattern::Node(element) => add_node(atoms, naming, spot.graph, element),
@@ -93,7 +96,8 @@ fn add_link(
     spot: Spot,
     part: &Pattern,
 ) -> Result<(), Memory>
-    ensures { OnOk result (atoms.new.items ≡ atoms.old.items ++ link_atoms (scope naming.now) spot.graph spot.left spot.right (pattern_tree (names_of naming.now) part.now)) }
+    ensures { OnOk result (atoms.new.items ≡ atoms.old.items ++ link_atoms (scope naming.now) spot.graph spot.left spot.right
+        (pattern_tree (names_of naming.now) part.now)) }
 {
     let Some(left) = spot.left else {
         return Ok(());
@@ -116,7 +120,8 @@ fn add_joined(
     link: Link,
     part: &Pattern,
 ) -> Result<(), Memory>
-    ensures { OnOk result (atoms.new.items ≡ atoms.old.items ++ joined_atoms (scope naming.now) link.graph link.left link.right (pattern_tree (names_of naming.now) part.now)) }
+    ensures { OnOk result (atoms.new.items ≡ atoms.old.items ++ joined_atoms (scope naming.now) link.graph link.left link.right
+        (pattern_tree (names_of naming.now) part.now)) }
 {
     match part {
         Pattern::Node(_) => Ok(()),

@@ -97,7 +97,8 @@ fn add_property(
     kind: Kind,
     asked: &PropertyUse,
 ) -> Result<(), Memory>
-    ensures { OnOk result (atoms.new.items ≡ atoms.old.items ++ property_atom (scope naming.now) graph x kind (property_use_by (name_of (names_of naming.now)) asked.now) ∷ []) }
+    ensures { OnOk result (atoms.new.items ≡ atoms.old.items ++ property_atom (scope naming.now) graph x kind
+        (property_use_by (name_of (names_of naming.now)) asked.now) ∷ []) }
 {
     let name = asked.property.copy()?;
     let value = naming.named(asked.value.sym);

@@ -13,16 +13,16 @@ use gc_base::Sym;
 pub fn variable(names: &NameTable, sym: Sym) -> Sym
     ensures { result ≡ numbered names.now (name_of names.now sym) }
 {
-    read_words(names);
     let _distinct = names.as_slice();
     if sym.0 < names.len() {
         sym
     } else {
+        read_words(names);
         Sym(names.len())
     }
 }
 
-// Reads each name of a table, which is a word by its type.
+// Reads each name of a table, which is a word by its type. A number that the parser gave never comes here.
 fn read_words(names: &NameTable)
     ensures { list_all is_word names.now ≡ true }
 {

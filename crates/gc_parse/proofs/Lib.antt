@@ -1,6 +1,7 @@
 pub mod DepthFaults
 pub mod DepthLaws
 pub mod LaterLoops
+pub mod ParsedExpressions
 pub mod ParsedLaws
 pub mod Prefixes
 pub mod QueryLemmas

@@ -1,9 +1,10 @@
 ghost use Rattle.std.specs.Prelude.{◌≡◌, ◌+◌, ◌++◌, ◌∷◌, [], length, map, take, IfOk};
 ghost use Rattle.gc_ast.specs.QueryViews.{file_trees, statement_tree};
 ghost use Rattle.gc_regx.specs.Views.{regex_tree};
-ghost use Rattle.gc_grammar.specs.Queries.{SpellsFile, SpellsRegex};
-ghost use Rattle.gc_parse.specs.Parses.{IsDueParse, IsDueWhole, IsParse, IsWhole, parsed, read_whole};
+ghost use Rattle.gc_grammar.specs.Queries.{SpellsFile, SpellsRegex, start};
+ghost use Rattle.gc_parse.specs.Parses.{IsDueParse, IsDueWhole, IsParse, IsWhole, parsed, parsed_regex, read_expression, read_whole};
 ghost use Rattle.gc_parse_readers.specs.QueryReaders.{file_reading};
+ghost use Rattle.gc_parse_readers.specs.RegexReaders.{read_regex};
 ghost use Rattle.gc_parse_source.specs.Sources.{names_among};
 
 use crate::depth::depth_fault;
@@ -23,7 +24,8 @@ use std::alloc::Global;
 /// that spells no expression, with the first token with which no expression begins so, or the number
 /// of tokens where more of them would have to come.
 pub fn parse_regex(alloc: Global, tokens: &Tokens) -> Result<Regex, ParseRefusal>
-    ensures { IsParse SpellsRegex regex_tree tokens.now.tokens result }
+    ensures right { IsParse SpellsRegex regex_tree tokens.now.tokens result }
+    ensures due { IsDueParse regex_tree (parsed_regex tokens.now.tokens) result }
 {
     if let Some(token) = depth_fault(tokens) {
         return Err(ParseRefusal::TooDeep(token));
@@ -33,7 +35,8 @@ pub fn parse_regex(alloc: Global, tokens: &Tokens) -> Result<Regex, ParseRefusal
 
 // The same where the brackets are not too deep.
 fn whole_regex(alloc: Global, tokens: &Tokens) -> Result<Regex, Refusal>
-    ensures { IsWhole SpellsRegex regex_tree tokens.now.tokens result }
+    ensures right { IsWhole SpellsRegex regex_tree tokens.now.tokens result }
+    ensures due { IsDueWhole regex_tree (read_expression (read_regex (length tokens.now.tokens + 1) start tokens.now.tokens)) result }
 {
     let source = Source::of(alloc, tokens)?;
     regex_of(&source)
@@ -41,7 +44,8 @@ fn whole_regex(alloc: Global, tokens: &Tokens) -> Result<Regex, Refusal>
 
 // The expression that all tokens spell.
 fn regex_of(source: &Source) -> Result<Regex, Refusal>
-    ensures { IsWhole SpellsRegex regex_tree source.now.tokens result }
+    ensures right { IsWhole SpellsRegex regex_tree source.now.tokens result }
+    ensures due { IsDueWhole regex_tree (read_expression (read_regex (length source.now.tokens + 1) start source.now.tokens)) result }
 {
     let room = u64::from(source.len()) + 1;
     let (part, end) = regex(source, room, 0)?;

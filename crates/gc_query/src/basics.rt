@@ -50,7 +50,8 @@ pub(crate) fn basic_made<L: Ledger>(
     requires most { next ≤ 9007199254740992 }
     ensures rises { Rises next result }
     ensures comes { ComesOf graphs.now next result }
-    ensures due { IsAnswered (DenotesBasic (scope_in session.now) (record { graphs = graphs.now; next = next }) (basic_tree (names_in session.now) basic.now)) result }
+    ensures due { IsAnswered (DenotesBasic (scope_in session.now) (record { graphs = graphs.now; next = next })
+        (basic_tree (names_in session.now) basic.now)) result }
     ensures told { OnOk result (Tells (scope_in session.now)
         (EvaluatesBasic (scope_in session.now) named.now.names graphs.now (basic_tree (names_in session.now) basic.now)) told.old told.new) }
 {

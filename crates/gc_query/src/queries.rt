@@ -42,7 +42,8 @@ pub(crate) fn query_made<L: Ledger>(
     ensures due { IsAnswered (Denotes (scope_in session.now) (standing_at catalog.old next) (query_tree (names_in session.now) query.now)) result }
     ensures comes { ComesOf catalog.old.graphs next result }
     ensures kept { catalog.new ≡ catalog.old }
-    ensures told { OnOk result (Tells (scope_in session.now) (Evaluates (scope_in session.now) catalog.old.names (standing_at catalog.old next) (query_tree (names_in session.now) query.now)) told.old told.new) }
+    ensures told { OnOk result (Tells (scope_in session.now) (Evaluates (scope_in session.now) catalog.old.names (standing_at catalog.old next)
+        (query_tree (names_in session.now) query.now)) told.old told.new) }
 {
     let graphs = catalog.graphs().len();
     let free = catalog.next();
@@ -69,7 +70,8 @@ fn query_under<L: Ledger>(
     ensures due { IsAnswered (Denotes (scope_in session.now) (standing_at catalog.old next) (query_tree (names_in session.now) query.now)) result }
     ensures comes { ComesOf catalog.old.graphs next result }
     ensures longer { IsLonger catalog.old catalog.new }
-    ensures told { OnOk result (Tells (scope_in session.now) (Evaluates (scope_in session.now) catalog.old.names (standing_at catalog.old next) (query_tree (names_in session.now) query.now)) told.old told.new) }
+    ensures told { OnOk result (Tells (scope_in session.now) (Evaluates (scope_in session.now) catalog.old.names (standing_at catalog.old next)
+        (query_tree (names_in session.now) query.now)) told.old told.new) }
 {
     let free = heads_stood(&query.heads, session, catalog, next, told, steps)?;
     let first = term_made(&query.first, session, catalog, free, told, steps)?;
@@ -91,11 +93,13 @@ fn heads_stood<L: Ledger>(
     requires later { catalog.old.next ≤ next }
     requires most { next ≤ 9007199254740992 }
     ensures rises { RisesOver next catalog.new result }
-    ensures due { AreStood (Heads (scope_in session.now) (standing_at catalog.old next) (row (map (head_tree (names_in session.now)) heads.now))) catalog.new result }
+    ensures due { AreStood (Heads (scope_in session.now) (standing_at catalog.old next)
+        (row (map (head_tree (names_in session.now)) heads.now))) catalog.new result }
     ensures come { AllCome catalog.old.graphs next catalog.new.graphs result }
     ensures longer { IsLonger catalog.old catalog.new }
     ensures names { OnOk result (catalog.new.names ≡ names_under_all catalog.old.names (row (map (head_tree (names_in session.now)) heads.now))) }
-    ensures told { OnOk result (Tells (scope_in session.now) (EvaluatesHeads (scope_in session.now) catalog.old.names (standing_at catalog.old next) (row (map (head_tree (names_in session.now)) heads.now))) told.old told.new) }
+    ensures told { OnOk result (Tells (scope_in session.now) (EvaluatesHeads (scope_in session.now) catalog.old.names (standing_at catalog.old next)
+        (row (map (head_tree (names_in session.now)) heads.now))) told.old told.new) }
 {
     let mut free = next;
     for head in heads {
@@ -119,11 +123,13 @@ fn head_stood<L: Ledger>(
     requires later { catalog.old.next ≤ next }
     requires most { next ≤ 9007199254740992 }
     ensures rises { RisesOver next catalog.new result }
-    ensures due { AreStood (Heads (scope_in session.now) (standing_at catalog.old next) (more (head_tree (names_in session.now) head.now) none)) catalog.new result }
+    ensures due { AreStood (Heads (scope_in session.now) (standing_at catalog.old next)
+        (more (head_tree (names_in session.now) head.now) none)) catalog.new result }
     ensures come { AllCome catalog.old.graphs next catalog.new.graphs result }
     ensures longer { IsLonger catalog.old catalog.new }
     ensures names { OnOk result (catalog.new.names ≡ names_under catalog.old.names (head_tree (names_in session.now) head.now)) }
-    ensures told { OnOk result (Tells (scope_in session.now) (EvaluatesHead (scope_in session.now) catalog.old.names (standing_at catalog.old next) (head_tree (names_in session.now) head.now)) told.old told.new) }
+    ensures told { OnOk result (Tells (scope_in session.now) (EvaluatesHead (scope_in session.now) catalog.old.names (standing_at catalog.old next)
+        (head_tree (names_in session.now) head.now)) told.old told.new) }
 {
     match head {
         Head::Graph { name, query } => {
@@ -154,7 +160,8 @@ fn joined<L: Ledger>(
     ensures due { IsAnswered (Joined (scope_in session.now) catalog.old.graphs first (row (map (next_term_tree (names_in session.now)) rest.now))) result }
     ensures comes { ComesAlong catalog.old.graphs first result }
     ensures kept { catalog.new ≡ catalog.old }
-    ensures told { OnOk result (Tells (scope_in session.now) (EvaluatesLater (scope_in session.now) catalog.old.names catalog.old.graphs first (row (map (next_term_tree (names_in session.now)) rest.now))) told.old told.new) }
+    ensures told { OnOk result (Tells (scope_in session.now) (EvaluatesLater (scope_in session.now) catalog.old.names catalog.old.graphs first
+        (row (map (next_term_tree (names_in session.now)) rest.now))) told.old told.new) }
 {
     let _valid = catalog.next();
     let mut left = first;
@@ -183,7 +190,8 @@ fn term_made<L: Ledger>(
     ensures due { IsAnswered (DenotesTerm (scope_in session.now) (standing_at catalog.old next) (term_tree (names_in session.now) term.now)) result }
     ensures comes { ComesOf catalog.old.graphs next result }
     ensures kept { catalog.new ≡ catalog.old }
-    ensures told { OnOk result (Tells (scope_in session.now) (EvaluatesTerm (scope_in session.now) catalog.old.names (standing_at catalog.old next) (term_tree (names_in session.now) term.now)) told.old told.new) }
+    ensures told { OnOk result (Tells (scope_in session.now) (EvaluatesTerm (scope_in session.now) catalog.old.names (standing_at catalog.old next)
+        (term_tree (names_in session.now) term.now)) told.old told.new) }
 {
     match term {
         Term::Basic(basic) => basic_made(
@@ -211,7 +219,8 @@ fn graph_named<L: Ledger>(
     requires most { next ≤ 9007199254740992 }
     ensures rises { Rises next result }
     ensures comes { ComesOf graphs.now next result }
-    ensures due { IsAnswered (λ outcome. outcome ≡ Ok (named (record { graphs = graphs.now; next = next }) (number_at (scope_in session.now).graph_at token))) result }
+    ensures due { IsAnswered (λ outcome. outcome ≡ Ok (named (record { graphs = graphs.now; next = next })
+        (number_at (scope_in session.now).graph_at token))) result }
 {
     let number = session.checked.graph_at(token).unwrap_or(0);
     let graph = graph_of_number(session.alloc, graphs, number, steps)?;

@@ -66,7 +66,8 @@ fn add_uses<L: Ledger>(
     table: &mut SegmentTable,
     steps: &mut Steps<L>,
 ) -> Result<(), QueryRefusal>
-    ensures gains { OnOk result (Gains (scope_in session.now) graphs.now (uses_of (head_tree (names_in session.now) head.now) number uses.now) table.old table.new) }
+    ensures gains { OnOk result (Gains (scope_in session.now) graphs.now
+        (uses_of (head_tree (names_in session.now) head.now) number uses.now) table.old table.new) }
     ensures fails { IfErr result (IsRefused (Fails (scope_in session.now) graphs.now (uses_of (head_tree (names_in session.now) head.now) number uses.now))) }
     ensures there { OnOk result (AreOnGraphs graphs.now table.old → AreOnGraphs graphs.now table.new) }
 {
@@ -86,8 +87,10 @@ fn add_use<L: Ledger>(
     table: &mut SegmentTable,
     steps: &mut Steps<L>,
 ) -> Result<(), QueryRefusal>
-    ensures gains { OnOk result (Gains (scope_in session.now) graphs.now (uses_of (head_tree (names_in session.now) head.now) number (used.now ∷ [])) table.old table.new) }
-    ensures fails { IfErr result (IsRefused (Fails (scope_in session.now) graphs.now (uses_of (head_tree (names_in session.now) head.now) number (used.now ∷ [])))) }
+    ensures gains { OnOk result (Gains (scope_in session.now) graphs.now
+        (uses_of (head_tree (names_in session.now) head.now) number (used.now ∷ [])) table.old table.new) }
+    ensures fails { IfErr result (IsRefused (Fails (scope_in session.now) graphs.now
+        (uses_of (head_tree (names_in session.now) head.now) number (used.now ∷ [])))) }
     ensures there { OnOk result (AreOnGraphs graphs.now table.old → AreOnGraphs graphs.now table.new) }
 {
     if used.view as usize != number {

@@ -1,7 +1,7 @@
 -- The certificate of a session is accepted.
-use Rattle.std.proofs.Common.{◌≡◌, Ok, ℕ, List, [], ◌∷◌, map, refl, sym, ap, ◌∙◌, subst, length}
+use Rattle.std.proofs.Common.{◌≡◌, Ok, ℕ, List, [], ◌∷◌, ◌++◌, map, refl, sym, ap, ◌∙◌, subst, length}
 use Rattle.std.specs.List.{AllByRecursion}
-use Rattle.gc_base.proofs.SetLaws.{AllByRecursion-append}
+use Rattle.std.proofs.lemmas.List.Elements.{All-append, All-from_recursion, recursion_from_All}
 use Rattle.gc_cert.specs.declared.document.SearchDoc.{SearchDoc}
 use Rattle.gc_cert_searches.specs.Searches as searched
 use Rattle.gc_cert_text.specs.Certificates.{SearchTold, certificate_of, told}
@@ -15,11 +15,15 @@ use Rattle.gc_query.specs.Logs.{AreAllSearched}
 use Rattle.gcore.specs.Certifications.{IsCertified}
 use Rattle.gcore.specs.Outcomes.{Request}
 
+in_turn : (xs ys : List SearchDoc) → AllByRecursion searched.IsAccepted xs → AllByRecursion searched.IsAccepted ys → AllByRecursion searched.IsAccepted (xs ++ ys)
+in_turn xs ys h k =
+    let P = searched.IsAccepted in recursion_from_All P (xs ++ ys) (All-append P xs ys (All-from_recursion P xs h) (All-from_recursion P ys k))
+
 -- the documents of evaluations are accepted, one evaluation after another
 all_accepted : (s : Scope) (all : List Evaluation) (docs : List SearchDoc) → AreAllSearched s all docs → AllByRecursion searched.IsAccepted docs
 all_accepted s [] docs h = subst (AllByRecursion searched.IsAccepted) (sym h) tt
 all_accepted s (e ∷ later) docs h =
-    subst (AllByRecursion searched.IsAccepted) (sym h.2) (AllByRecursion-append searched.IsAccepted h.0 h.1 h.3.accepted (all_accepted s later h.1 h.4))
+    subst (AllByRecursion searched.IsAccepted) (sym h.2) (in_turn h.0 h.1 h.3.accepted (all_accepted s later h.1 h.4))
 
 -- so the verdict on each is that it is
 verdicts : (docs : List SearchDoc) → AllByRecursion searched.IsAccepted docs → AllByRecursion checked.IsAccepted docs

@@ -13,6 +13,7 @@ pub mod SummaryLaws
 pub mod QueryFileLaws
 pub mod SortedFiles
 pub mod TextPlaces
+pub mod ToldRooms
 pub mod SessionLaws
 pub mod StatementLaws
 pub mod BuiltQueries

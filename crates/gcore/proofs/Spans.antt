@@ -2,14 +2,13 @@
 use Rattle.std.proofs.Common.{◌≡◌, ◌≤◌, ◌<◌, ◌+◌, ℕ, false, true, List, [], ◌∷◌, ◌++◌, Option, Some, None, sym, ap, subst, arith}
 use Rattle.std.specs.Prelude.{⊤}
 use Rattle.std.specs.List.{Contains, list_any}
-use Rattle.std.proofs.lemmas.List.Elements.{Contains-append_left, Contains-append_right}
+use Rattle.std.proofs.lemmas.List.Elements.{Contains-append_left, Contains-append_right, Contains-push}
 use Rattle.gc_base.specs.Words.{is_reserved}
 use Rattle.gc_lex.specs.declared.token.Token.{Token}
 use Rattle.gc_lex.specs.declared.token.Token.TheVariants.{Word}
 use Rattle.gc_ast.specs.Names.{same_name}
 use Rattle.gc_ast.specs.Trees.{Named, Tree, AQuery}
 use Rattle.gc_expr.specs.Views.{Names}
-use Rattle.gc_rows.proofs.Members.{contains_here}
 use Rattle.gc_grammar.specs.Words.{Point, Lang, One, Either, this, that, IsName, alone, many, name, numbered, optional, separated, ◌⋅◌, ◌∣◌, ◌⇒◌, ◌▸◌, ◌◂◌}
 use Rattle.gc_query.specs.InOrder.{IsNameIf, IsNameIn}
 
@@ -122,7 +121,7 @@ module _ {names : Names} where
         let one = s.spelled in
         let e = ap token_of one.after in
         let there : list_any (same_name s.value) names ≡ true =
-        h s.value (subst (λ us. Contains us (Word s.value)) (sym one.alone) (subst (λ (t : Token). Contains (t ∷ []) (Word s.value)) (sym one.means.0) (contains_here (Word s.value) []))) one.means.1 in
+        h s.value (subst (λ us. Contains us (Word s.value)) (sym one.alone) (subst (λ (t : Token). Contains (t ∷ []) (Word s.value)) (sym one.means.0) (Contains-push [] (Word s.value)))) one.means.1 in
         let made : IsNameIn names p.token (record { name = s.value; token = p.token }) q.token = record { low = omega arith; high = omega (arith, e); there = there } in
         subst (λ (y : Named). IsNameIn names p.token y q.token) (sym s.made) made;
   }

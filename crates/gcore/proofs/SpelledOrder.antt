@@ -1,6 +1,7 @@
 -- The names and elements of a file that tokens spell stand in the order of the text.
 use Rattle.std.proofs.Common.{◌≡◌, ⊎_elim, ◌≤◌, ◌+◌, ◌||◌, ℕ, zero, suc, Bool, true, false, cond, List, [], ◌∷◌, ◌++◌, fold, Option, Some, None, refl, sym, ap, ◌∙◌, subst, arith}
-use Rattle.std.specs.List.{list_any}
+use Rattle.std.specs.List.{Contains, list_any}
+use Rattle.std.proofs.lemmas.List.Elements.{Contains-append_cases, Contains-push_cases}
 use Rattle.std.specs.Cmp.Lexicographic.{bytes_decides}
 use Rattle.std.proofs.lemmas.List.Folds.{list_any-append}
 use Rattle.gc_lex.specs.declared.token.Token.{Token}
@@ -13,7 +14,6 @@ use Rattle.gc_expr.specs.Views.{Names}
 use Rattle.gc_ast.specs.Names.{same_name, with_name}
 use Rattle.gc_base.specs.Words.{is_reserved}
 use Rattle.gc_parse_source.specs.Sources.{names_among, with_token}
-use Rattle.gc_rows.proofs.Members.{cons_cases}
 use Rattle.gc_grammar.specs.Words.{Lang, One, Point, optional, name, ◌▸◌, ◌⇒◌}
 use Rattle.gc_grammar.specs.Regexes.{Expression, label, any, test, view, group, atom, star, cat, alt, regex_within}
 use Rattle.gc_grammar.specs.Regexes as grammar
@@ -497,13 +497,16 @@ with_own names w free = ap (λ b. list_any (same_name w) (cond b names (with_nam
         list_any-append (same_name w) names (w ∷ [])
         ∙ (ap (λ b. b || list_any (same_name w) (w ∷ [])) is ∙ ap (λ b. b || false) ((bytes_decides w w).1 refl))
 
+only : (t u : Token) → Contains (t ∷ []) u → t ≡ u
+only t u m = ⊎_elim (λ none. absurd (omega (arith, none.1))) (λ e. e) (Contains-push_cases [] t u m)
+
 has_names : (names : Names) (ts : List Token) → HasNames (fold with_token names ts) ts
 has_names names [] w m free = absurd (omega (arith, m.1))
 has_names names (t ∷ ts) w m free =
     ⊎_elim
-    (λ e. tokens_more (with_token names t) ts w (subst (λ (u : Token). list_any (same_name w) (with_token names u) ≡ true) (sym e) (with_own names w free)))
+    (λ h. tokens_more (with_token names t) ts w (subst (λ (u : Token). list_any (same_name w) (with_token names u) ≡ true) (sym (only t (Word w) h)) (with_own names w free)))
     (λ k. has_names (with_token names t) ts w k free)
-    (cons_cases t ts (Word w) m)
+    (Contains-append_cases (t ∷ []) ts (Word w) m)
 
 -- the statements that tokens spell
 pub spelled_order : Widens → (ts : List Token) (statements : List (Tree AStatement)) → SpellsFile ts statements → (upto : ℕ) × IsInOrder (names_among ts) 0 (row statements) upto

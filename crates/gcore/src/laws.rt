@@ -55,7 +55,8 @@ pub fn a_query_file_asks_what_its_tokens_spell()
 /// which it looks for walks has an automaton, and what its CONSTRUCTs claim is of one graph.
 pub fn a_query_file_that_is_read_is_built()
     ensures parts { (ts : List Token) (statements : List (Tree AStatement)) → SpellsFile ts statements → EachHasParts (row statements) }
-    ensures order { (ts : List Token) (statements : List (Tree AStatement)) → SpellsFile ts statements → (upto : ℕ) × IsInOrder (names_among ts) 0 (row statements) upto }
+    ensures order { (ts : List Token) (statements : List (Tree AStatement)) → SpellsFile ts statements
+        → (upto : ℕ) × IsInOrder (names_among ts) 0 (row statements) upto }
     ensures built { (graphs : List (List ℕ)) (text : List ℕ) (query : PlacedFile) → query_file_of graphs text ≡ Ok query → AreBuilt query.file }
 {
     a_parse_is_what_tokens_spell();

@@ -48,7 +48,8 @@ fn log_statement<L: Ledger>(
 ) -> Result<(), Stop>
     requires built { AreBuilt (file_of checked.now) }
     requires there { i < length (file_trees checked.now.file) }
-    ensures { LogsStatementAt (scope_of checked.now 0) (placed checked.now).places catalog.old catalog.new log.old log.new (file_trees checked.now.file) i result }
+    ensures { LogsStatementAt (scope_of checked.now 0) (placed checked.now).places catalog.old catalog.new log.old log.new
+        (file_trees checked.now.file) i result }
 {
     match step(alloc, checked, i, catalog, log, steps) {
         Ok(_) => Ok(()),
