@@ -1,4 +1,4 @@
-ghost use Rattle.std.specs.Prelude.{◌≡◌, ℕ, OnOk, refl};
+ghost use Rattle.std.specs.Prelude.{◌≡◌, ℕ, IfOk, refl};
 ghost use Rattle.gc_sets.specs.Descriptions.{united_node};
 ghost use Rattle.gc_sets.specs.Unions.{united_edge, united_path};
 
@@ -17,9 +17,10 @@ pub(crate) trait Claim {
     fn id(&self) -> Id
         ensures { result ≡ id_of self.now };
 
-    // Adds the labels and values of another.
-    fn unite(&mut self, more: &Self) -> Result<(), Memory>
-        ensures { OnOk result (self.new ≡ united self.old more.now) };
+    // The same with the labels and values of another. It is used up, so none is left half united where
+    // memory is wanting.
+    fn unite(self, more: &Self) -> Result<Self, Memory>
+        ensures { IfOk result (λ all. all ≡ united self more.now) };
 
     /// What is said beside it leaves its identity.
     ghost same_id: { (a b : Self) → id_of (united a b) ≡ id_of a };
@@ -36,9 +37,12 @@ impl Claim for NodeInfo {
         self.id
     }
 
-    fn unite(&mut self, more: &NodeInfo) -> Result<(), Memory> {
-        unite_labels(&mut self.labels, &more.labels)?;
-        unite_properties(&mut self.properties, &more.properties)
+    fn unite(self, more: &NodeInfo) -> Result<NodeInfo, Memory> {
+        Ok(NodeInfo {
+            labels: unite_labels(self.labels, &more.labels)?,
+            properties: unite_properties(self.properties, &more.properties)?,
+            ..self
+        })
     }
 }
 
@@ -53,9 +57,12 @@ impl Claim for EdgeInfo {
         self.id
     }
 
-    fn unite(&mut self, more: &EdgeInfo) -> Result<(), Memory> {
-        unite_labels(&mut self.labels, &more.labels)?;
-        unite_properties(&mut self.properties, &more.properties)
+    fn unite(self, more: &EdgeInfo) -> Result<EdgeInfo, Memory> {
+        Ok(EdgeInfo {
+            labels: unite_labels(self.labels, &more.labels)?,
+            properties: unite_properties(self.properties, &more.properties)?,
+            ..self
+        })
     }
 }
 
@@ -70,8 +77,11 @@ impl Claim for PathInfo {
         self.id
     }
 
-    fn unite(&mut self, more: &PathInfo) -> Result<(), Memory> {
-        unite_labels(&mut self.labels, &more.labels)?;
-        unite_properties(&mut self.properties, &more.properties)
+    fn unite(self, more: &PathInfo) -> Result<PathInfo, Memory> {
+        Ok(PathInfo {
+            labels: unite_labels(self.labels, &more.labels)?,
+            properties: unite_properties(self.properties, &more.properties)?,
+            ..self
+        })
     }
 }

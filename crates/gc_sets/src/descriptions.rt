@@ -1,4 +1,4 @@
-ghost use Rattle.std.specs.Prelude.{◌≡◌, [], fold, IfOk, OnOk, Option};
+ghost use Rattle.std.specs.Prelude.{◌≡◌, [], fold, IfOk, Option};
 ghost use Rattle.std.specs.Option.{option_copied, unwrap_or};
 ghost use Rattle.gc_base.specs.Ascending.{with_item};
 ghost use Rattle.gc_base.specs.PropertyLists.{values_of};
@@ -6,31 +6,34 @@ ghost use Rattle.gc_sets.specs.Descriptions.{united_labels, united_values, unite
 
 use gc_base::{Ascending, Duplicate, Item, LabelSet, Memory, Properties, Property, ValueSet};
 
-// Adds the labels of another set.
-pub(crate) fn unite_labels(labels: &mut LabelSet, more: &LabelSet) -> Result<(), Memory>
-    ensures { OnOk result (labels.new ≡ united_labels labels.old more.now) }
+// Labels, and those of another set. They are used up, so none are left half united where memory is
+// wanting.
+pub(crate) fn unite_labels(labels: LabelSet, more: &LabelSet) -> Result<LabelSet, Memory>
+    ensures { IfOk result (λ united. united ≡ united_labels labels more.now) }
 {
     unite(labels, more)
 }
 
-// Adds the values of other properties.
-pub(crate) fn unite_properties(properties: &mut Properties, more: &Properties) -> Result<(), Memory>
-    ensures { OnOk result (properties.new ≡ united_properties properties.old more.now) }
+// Properties, and the values of others. They are used up, so none are left half united where memory
+// is wanting.
+pub(crate) fn unite_properties(
+    mut properties: Properties,
+    more: &Properties,
+) -> Result<Properties, Memory>
+    ensures { IfOk result (λ united. united ≡ united_properties properties more.now) }
 {
     for property in more.as_slice() {
-        let values = values_with(properties, property)?;
+        let values = values_with(&properties, property)?;
         properties.put(property.name.copy()?, values)?;
     }
-    Ok(())
+    Ok(properties)
 }
 
 // The labels of both.
 pub(crate) fn united_labels(labels: &LabelSet, more: &LabelSet) -> Result<LabelSet, Memory>
     ensures { IfOk result (λ united. united ≡ united_labels labels.now more.now) }
 {
-    let mut united = labels.copy()?;
-    unite_labels(&mut united, more)?;
-    Ok(united)
+    unite_labels(labels.copy()?, more)
 }
 
 // The properties of both.
@@ -40,9 +43,7 @@ pub(crate) fn united_properties(
 ) -> Result<Properties, Memory>
     ensures { IfOk result (λ united. united ≡ united_properties properties.now more.now) }
 {
-    let mut united = properties.copy()?;
-    unite_properties(&mut united, more)?;
-    Ok(united)
+    unite_properties(properties.copy()?, more)
 }
 
 // The values that a name has in some properties, and those of one more.
@@ -50,11 +51,7 @@ fn values_with(properties: &Properties, more: &Property) -> Result<ValueSet, Mem
     ensures { IfOk result (λ values. values ≡ united_values (unwrap_or (values_of properties.now more.now.name) []) more.now.values) }
 {
     match properties.get(&more.name) {
-        Some(values) => {
-            let mut united = values.copy()?;
-            unite(&mut united, &more.values)?;
-            Ok(united)
-        }
+        Some(values) => unite(values.copy()?, &more.values),
         None => {
             let _values = more.values.as_slice();
             more.values.copy()
@@ -62,15 +59,15 @@ fn values_with(properties: &Properties, more: &Property) -> Result<ValueSet, Mem
     }
 }
 
-// Adds the items of another set.
+// The items of a set, which is used up, and those of another.
 fn unite<T: Item + Duplicate + Drop>(
-    set: &mut Ascending<T>,
+    mut set: Ascending<T>,
     more: &Ascending<T>,
-) -> Result<(), Memory>
-    ensures { OnOk result (set.new ≡ fold (with_item T.cmp) set.old more.now) }
+) -> Result<Ascending<T>, Memory>
+    ensures { IfOk result (λ united. united ≡ fold (with_item T.cmp) set more.now) }
 {
     for item in more.as_slice() {
         set.insert(item.copy()?)?;
     }
-    Ok(())
+    Ok(set)
 }

@@ -27,7 +27,7 @@ fn united<T: Claim + Drop>(claims: Vec<T>) -> Result<Vec<T>, Memory>
     let mut last = first;
     for claim in claims {
         if claim.id() == last.id() {
-            last.unite(&claim)?;
+            last = last.unite(&claim)?;
         } else {
             all.push(mem::replace(&mut last, claim))?;
         }
