@@ -1,12 +1,21 @@
 -- What a search by identity finds.
-use Rattle.std.proofs.Common.{◌≡◌, ℕ, ◌==◌, List, length, get_or, refl, sym, ◌∙◌, Some, None, Ok, Err}
-use Rattle.std.specs.Cmp.{nat_cmp_total, unsigned_tied}
+use Rattle.std.proofs.Common.{◌≡◌, ℕ, ◌<◌, ◌==◌, nat_lt, true, List, length, get_or, refl, sym, ap, ◌∙◌, Some, None, Ok, Err, arith}
+use Rattle.std.specs.Cmp.{nat_cmp_is, nat_cmp_total, unsigned_tied}
+use Rattle.std.specs.declared.cmp.Ordering.TheVariants.{Equal}
 use Rattle.std.specs.List.{find}
 use Rattle.std.specs.List.Sorted.{IsSearchInRange, IsBinarySearchResult}
 use Rattle.std.specs.Ordering.{nat_cmp, on, is_eq}
+use Rattle.std.proofs.lemmas.Bool.Decides.{nat_tests}
+use Rattle.std.proofs.lemmas.List.{get_or_default}
 use Rattle.std.proofs.lemmas.Option.{slice_get_read}
 use Rattle.gc_base.specs.Ascending.{Ascends}
 use Rattle.gc_base.proofs.Search.{searched}
+
+is_below : (a b : ℕ) → true ≡ nat_lt a b → a < b
+is_below a b h = grind (arith, nat_tests)
+
+pub equal_is : (a b : ℕ) → true ≡ (a == b) → a ≡ b
+equal_is a b h = grind (arith, nat_tests)
 
 module _ {X : Type 0} (key : X → ℕ) (xs : List X) (id : ℕ) (up : Ascends (on key nat_cmp) xs) where
   -- the test by order is the test for being equal
@@ -23,3 +32,10 @@ module _ {X : Type 0} (key : X → ℕ) (xs : List X) (id : ℕ) (up : Ascends (
   not_found gap within found =
       let p = searched key nat_cmp nat_cmp_total xs id (Err gap) up within found in
       sym (same_test ∙ p.first)
+
+  pub stands_at : (place : ℕ) (x : X) → true ≡ nat_lt place (length xs) → x ≡ get_or xs place x → key x ≡ id → Some x ≡ find (λ x. key x == id) xs
+  stands_at place x within read is =
+      let below = is_below place (length xs) within in
+      found_at place x below
+      (λ d. sym (nat_cmp_is (key (get_or xs place d)) id Equal (ap key (get_or_default xs place d x below ∙ sym read) ∙ is)))
+      read

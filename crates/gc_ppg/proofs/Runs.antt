@@ -1,11 +1,12 @@
 -- The entries of one key in a list that ascends by key.
-use Rattle.std.proofs.Common.{◌≡◌, ℕ, zero, suc, ◌+◌, ◌<◌, ◌≤◌, true, false, cond, ◌==◌, nat_lt, not, ◌&&◌, List, [], ◌∷◌, length, drop, get_or, Option, Some, None, refl, sym, ap, ◌∙◌, subst, arith}
+use Rattle.std.proofs.Common.{◌≡◌, ℕ, zero, suc, ◌+◌, ◌<◌, ◌≤◌, true, false, cond, ◌==◌, nat_lt, leb, ◌-◌, not, ◌&&◌, List, [], ◌∷◌, length, drop, get_or, Option, Some, None, refl, sym, ap, ◌∙◌, subst, arith}
 use Rattle.std.specs.Bool.{⊤}
 use Rattle.std.specs.List.{AllByRecursion, AllWithin, filter, slice_get}
 use Rattle.std.specs.List.Sorted.{IsNonDecreasingBy, IsPartitionPoint, IsStableByKey}
 use Rattle.std.specs.Option.{option_and_then}
 use Rattle.std.specs.Ordering.{nat_cmp, is_lt}
 use Rattle.std.proofs.lemmas.Bool.Decides.{nat_tests}
+use Rattle.std.proofs.lemmas.List.{get_or_default}
 use Rattle.std.proofs.lemmas.List.Elements.{recursion_from_All, All-from_all_within}
 use Rattle.std.proofs.lemmas.List.Sorted.{IsNonDecreasingBy-drop}
 use Rattle.gc_ppg.specs.KeyedPlaces.{at_key}
@@ -111,3 +112,25 @@ pub kept_by_sort : (xs ys : List PlaceAt) → IsStableByKey (λ e. e.key) nat_cm
 kept_by_sort xs ys stable key =
     let e : PlaceAt = record { key = key; place = 0 } in
     (λ j. filter (λ y. sym (tie_is key y.key) j) ys) ∙ (stable e ∙ (λ j. filter (λ y. tie_is key y.key j) xs))
+
+less_more : (a b k : ℕ) → a ≤ b → nat_lt b k ≡ true → nat_lt a k ≡ true
+less_more a b k le h = grind (arith, nat_tests)
+
+more_less : (a b k : ℕ) → a ≤ b → leb k a ≡ true → nat_lt b k ≡ false
+more_less a b k le h = grind (arith, nat_tests)
+
+-- where the entry before a place has a key below one, all before the place have
+pub below_before : (xs : List PlaceAt) (place key : ℕ) (e : PlaceAt) → IsNonDecreasingBy (λ e. e.key) xs → 0 < place → place ≤ length xs
+    → nat_lt (get_or xs (place - 1) e).key key ≡ true → AllWithin (λ e. nat_lt e.key key ≡ true) xs 0 place
+below_before xs place key e up some le last k d low high =
+    let rise : (get_or xs k d).key ≤ (get_or xs (place - 1) d).key = up k (place - 1) d (omega arith) (omega arith) in
+    less_more (get_or xs k d).key (get_or xs (place - 1) d).key key rise
+    (subst (λ (x : PlaceAt). nat_lt x.key key ≡ true) (get_or_default xs (place - 1) e d (omega arith)) last)
+
+-- where the entry at a place has a key from one on, all from the place on have
+pub above_from : (xs : List PlaceAt) (place key : ℕ) (e : PlaceAt) → IsNonDecreasingBy (λ e. e.key) xs → place < length xs
+    → leb key (get_or xs place e).key ≡ true → AllWithin (λ e. nat_lt e.key key ≡ false) xs place (length xs)
+above_from xs place key e up within first k d low high =
+    let rise : (get_or xs place d).key ≤ (get_or xs k d).key = up place k d low high in
+    more_less (get_or xs place d).key (get_or xs k d).key key rise
+    (subst (λ (x : PlaceAt). leb key x.key ≡ true) (get_or_default xs place e d within) first)

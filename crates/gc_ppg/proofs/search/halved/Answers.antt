@@ -2,7 +2,7 @@ use Rattle.std.proofs.Common.{rules}
 use Rattle.std.specs.Ordering.{nat_cmp}
 use Rattle.std.proofs.lemmas.Fn.{always_returns_same}
 use Rattle.gc_ppg.proofs.Finds.{found_at, not_found}
-use Rattle.gc_ppg.proofs.search.find.Goals as goal
+use Rattle.gc_ppg.proofs.search.halved.Goals as goal
 
 pub returns-in-Ok : goal.returns-in-Ok
 returns-in-Ok g c =

@@ -2,7 +2,7 @@ use Rattle.std.proofs.Common.{◌≡◌, nat_lt, rules, subst, sym, true, false,
 use Rattle.std.specs.List.Sorted.{IsPartitionPoint, IsNonDecreasingBy}
 use Rattle.std.proofs.lemmas.List.Sorted.{IsPartitionPoint-from_clause, IsPartitionedBy-ltb}
 use Rattle.gc_ppg.specs.declared.places.PlaceAt.{PlaceAt}
-use Rattle.gc_ppg.proofs.places.Places.start.Goals as goal
+use Rattle.gc_ppg.proofs.places.Places.halved_start.Goals as goal
 
 pub returns-clause-point : goal.returns-clause-point
 returns-clause-point c =
