@@ -67,8 +67,8 @@ impl Row {
         })
     }
 
-    /// A copy with room for some more bindings.
-    pub(crate) fn copy_with_room(&self, more: usize) -> Result<Row, Memory>
+    /// A copy with room for some more bindings, which then take no more memory.
+    pub fn copy_with_room(&self, more: usize) -> Result<Row, Memory>
         ensures { IfOk result (λ row. row ≡ self.now) }
     {
         let room = self.bindings.len().saturating_add(more);
