@@ -10,12 +10,12 @@ use Rattle.std.proofs.lemmas.List.{length-map}
 use Rattle.std.proofs.lemmas.List.Sorted.{IsPermutation-sym, IsPermutation-trans, IsPermutation-append_left, IsPermutation-append_right, length_permutation}
 use Rattle.gc_base.specs.declared.walk.Step.{Step}
 use Rattle.gc_prod.specs.Products.{Setting}
-use Rattle.gc_search.specs.Arrivals.{FoundWalk, entry_of}
-use Rattle.gc_search.specs.Entries.{Entry, LexLess, Lower, Strictly, Same, AtMostAt, Sooner, Nearer, Here}
+use Rattle.gc_search.specs.Arrivals.{FoundWalk, entry_of, NoLater}
+use Rattle.gc_search.specs.Entries.{Entry, LexLess, Lower, Cheaper, Shorter, AtMost, Strictly, Same}
 use Rattle.gc_search.specs.Links.{Link, Walks, IsTold}
 use Rattle.gc_search.specs.Passages.{Has}
 use Rattle.gc_search.specs.Tails.{edges_told, edges_order}
-use Rattle.gc_search.specs.Waiting.{Queue, links_of, told_by, NoLater, Falls, IsAlike, IsSooner, IsQueue, AreFirst, IsFilled}
+use Rattle.gc_search.specs.Waiting.{Queue, links_of, told_by, Falls, IsAlike, IsSooner, IsQueue, AreFirst, IsFilled}
 use Rattle.gc_search.proofs.Flat.{Has_later, Has_from_map}
 use Rattle.gc_search.proofs.HeapLaws.{has_permuted, none_there, alike_back, alike_trans, alike_sooner}
 use Rattle.gc_search.proofs.LoopLaws.{lex_ranked, all_has, all_of_has}
@@ -31,16 +31,16 @@ pub front_order_total : (setting : Setting) (walks : List FoundWalk) → IsTotal
 front_order_total setting walks =
     back_total (then_total (on_total (λ (l : Link). length (edges_told setting walks l)) nat_cmp_total) (on_total (λ (l : Link). edges_told setting walks l) nat_list_cmp_total))
 
--- walks with equally many edges at one cost and node
-level_least : (r s : ℕ) (a b : Entry) (n o : Ordering) → r ≡ s → a.cost ≡ b.cost → length a.edges ≡ length b.edges
+-- walks with equally many edges at one cost
+level_least : (a b : Entry) (n o : Ordering) → a.cost ≡ b.cost → length a.edges ≡ length b.edges
     → MatchOrdering n (length b.edges < length a.edges) (length b.edges ≡ length a.edges) (length a.edges < length b.edges)
     → MatchOrdering o (LexLess b.edges a.edges) (b.edges ≡ a.edges) (LexLess a.edges b.edges)
-    → is_lt (ordering_then n o) ≡ false → AtMostAt r a s b
-level_least r s a b Less o at cost same m l h = absurd (omega (arith, m, same))
-level_least r s a b Greater o at cost same m l h = absurd (omega (arith, m, same))
-level_least r s a b Equal Less at cost same m l h = cc
-level_least r s a b Equal Equal at cost same m l h = Here at (Same (entry_eq a b cost (sym l)))
-level_least r s a b Equal Greater at cost same m l h = Here at (Strictly (Lower cost same l))
+    → is_lt (ordering_then n o) ≡ false → AtMost a b
+level_least a b Less o cost same m l h = absurd (omega (arith, m, same))
+level_least a b Greater o cost same m l h = absurd (omega (arith, m, same))
+level_least a b Equal Less cost same m l h = cc
+level_least a b Equal Equal cost same m l h = Same (entry_eq a b cost (sym l))
+level_least a b Equal Greater cost same m l h = Strictly (Lower cost same l)
 
 module _ (tree : Walks) where
   abbrev walk : Link → FoundWalk
@@ -56,13 +56,12 @@ module _ (tree : Walks) where
       → is_lt (edges_order tree.setting tree.walks b a) ≡ false → NoLater (walk a) (walk b)
   level_no_later a b s t e h =
       let same : length (edges_of a) ≡ length (edges_of b) = sym (count_is a s) ∙ (e.1 ∙ count_is b t) in
-      level_least a.at.node b.at.node (entry_of (walk a)) (entry_of (walk b)) (nat_cmp (length (edges_of b)) (length (edges_of a))) (slice_cmp nat_cmp (edges_of b) (edges_of a))
-      e.2 e.0 same (ranked (length (edges_of b)) (length (edges_of a)) (nat_cmp (length (edges_of b)) (length (edges_of a))) refl) (lex_ranked (edges_of b) (edges_of a) (sym same)) h
+      level_least (entry_of (walk a)) (entry_of (walk b)) (nat_cmp (length (edges_of b)) (length (edges_of a))) (slice_cmp nat_cmp (edges_of b) (edges_of a))
+      e.0 same (ranked (length (edges_of b)) (length (edges_of a)) (nat_cmp (length (edges_of b)) (length (edges_of a))) refl) (lex_ranked (edges_of b) (edges_of a) (sym same)) h
 
   sooner_no_later : (a b : Link) → IsTold tree.setting tree.walks a → IsTold tree.setting tree.walks b → IsSooner a b → NoLater (walk a) (walk b)
-  sooner_no_later a b s t (inl l) = Sooner (inl l)
-  sooner_no_later a b s t (inr (c, inl l)) = Sooner (inr (c, omega (arith, l, count_is a s, count_is b t)))
-  sooner_no_later a b s t (inr (c, inr d)) = Nearer (c, sym (count_is a s) ∙ (d.0 ∙ count_is b t)) d.1
+  sooner_no_later a b s t (inl l) = Strictly (Cheaper l)
+  sooner_no_later a b s t (inr (c, l)) = Strictly (Shorter c (omega (arith, l, count_is a s, count_is b t)))
 
   falls_sorted : (others : List FoundWalk) (front : List Link) → ((x : Link) → Has front x → IsTold tree.setting tree.walks x)
       → ((x y : Link) → Has front x → Has front y → IsAlike x y) → ((x : Link) (y : FoundWalk) → Has front x → Has others y → NoLater (walk x) y)

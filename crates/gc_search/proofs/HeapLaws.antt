@@ -31,17 +31,8 @@ one_of a b = elim (three a.cost b.cost) [
   | inr r ↦ elim r [
     | inr l ↦ inr (inr (inl l))
     | inl c ↦ elim (three a.edges b.edges) [
-      | inl l ↦ inr (inl (inr (c, inl l)))
-      | inr r ↦ elim r [
-        | inr l ↦ inr (inr (inr (sym c, inl l)))
-        | inl n ↦ elim (three a.at.node b.at.node) [
-          | inl l ↦ inr (inl (inr (c, inr (n, l))))
-          | inr r ↦ elim r [
-            | inr l ↦ inr (inr (inr (sym c, inr (sym n, l))))
-            | inl d ↦ inl (c, n, d)
-          ]
-        ]
-      ]
+      | inl l ↦ inr (inl (inr (c, l)))
+      | inr r ↦ elim r [ inl n ↦ inl (c, n) | inr l ↦ inr (inr (inr (sym c, l))) ]
     ]
   ]
 ]
@@ -63,18 +54,11 @@ nat_same m n e = by (nat_cmp m n) (ranked m n (nat_cmp m n) refl)
     by Greater h = absurd (omega (arith, h, e))
 
 sooner_less : (a b : Link) → IsSooner a b → key_order a b ≡ Less
-sooner_less a b (inl l) = ap (λ o. ordering_then o (ordering_then (nat_cmp a.edges b.edges) (nat_cmp a.at.node b.at.node))) (nat_less a.cost b.cost l)
-sooner_less a b (inr (c, inl l)) =
-    ap (λ o. ordering_then o (ordering_then (nat_cmp a.edges b.edges) (nat_cmp a.at.node b.at.node))) (nat_same a.cost b.cost c)
-    ∙ ap (λ o. ordering_then o (nat_cmp a.at.node b.at.node)) (nat_less a.edges b.edges l)
-sooner_less a b (inr (c, inr d)) =
-    ap (λ o. ordering_then o (ordering_then (nat_cmp a.edges b.edges) (nat_cmp a.at.node b.at.node))) (nat_same a.cost b.cost c)
-    ∙ (ap (λ o. ordering_then o (nat_cmp a.at.node b.at.node)) (nat_same a.edges b.edges d.0) ∙ nat_less a.at.node b.at.node d.1)
+sooner_less a b (inl l) = ap (λ o. ordering_then o (nat_cmp a.edges b.edges)) (nat_less a.cost b.cost l)
+sooner_less a b (inr (c, l)) = ap (λ o. ordering_then o (nat_cmp a.edges b.edges)) (nat_same a.cost b.cost c) ∙ nat_less a.edges b.edges l
 
 alike_equal : (a b : Link) → IsAlike a b → key_order a b ≡ Equal
-alike_equal a b h =
-    ap (λ o. ordering_then o (ordering_then (nat_cmp a.edges b.edges) (nat_cmp a.at.node b.at.node))) (nat_same a.cost b.cost h.0)
-    ∙ (ap (λ o. ordering_then o (nat_cmp a.at.node b.at.node)) (nat_same a.edges b.edges h.1) ∙ nat_same a.at.node b.at.node h.2)
+alike_equal a b h = ap (λ o. ordering_then o (nat_cmp a.edges b.edges)) (nat_same a.cost b.cost h.0) ∙ nat_same a.edges b.edges h.1
 
 nat_greater : (m n : ℕ) → n < m → nat_cmp m n ≡ Greater
 nat_greater m n l = by (nat_cmp m n) (ranked m n (nat_cmp m n) refl)
@@ -85,43 +69,32 @@ nat_greater m n l = by (nat_cmp m n) (ranked m n (nat_cmp m n) refl)
     by Greater h = refl
 
 back_greater : (a b : Link) → IsSooner a b → key_order b a ≡ Greater
-back_greater a b (inl l) = ap (λ o. ordering_then o (ordering_then (nat_cmp b.edges a.edges) (nat_cmp b.at.node a.at.node))) (nat_greater b.cost a.cost l)
-back_greater a b (inr (c, inl l)) =
-    ap (λ o. ordering_then o (ordering_then (nat_cmp b.edges a.edges) (nat_cmp b.at.node a.at.node))) (nat_same b.cost a.cost (sym c))
-    ∙ ap (λ o. ordering_then o (nat_cmp b.at.node a.at.node)) (nat_greater b.edges a.edges l)
-back_greater a b (inr (c, inr d)) =
-    ap (λ o. ordering_then o (ordering_then (nat_cmp b.edges a.edges) (nat_cmp b.at.node a.at.node))) (nat_same b.cost a.cost (sym c))
-    ∙ (ap (λ o. ordering_then o (nat_cmp b.at.node a.at.node)) (nat_same b.edges a.edges (sym d.0)) ∙ nat_greater b.at.node a.at.node d.1)
+back_greater a b (inl l) = ap (λ o. ordering_then o (nat_cmp b.edges a.edges)) (nat_greater b.cost a.cost l)
+back_greater a b (inr (c, l)) = ap (λ o. ordering_then o (nat_cmp b.edges a.edges)) (nat_same b.cost a.cost (sym c)) ∙ nat_greater b.edges a.edges l
 
 apart : (a b : Link) → IsSooner a b → IsAlike a b → ⊥
 apart a b (inl l) e = let n = e.0 in omega (arith, l, n)
-apart a b (inr (c, inl l)) e = let n = e.1 in omega (arith, l, n)
-apart a b (inr (c, inr d)) e = let l = d.1 in let n = e.2 in omega (arith, l, n)
+apart a b (inr (c, l)) e = let n = e.1 in omega (arith, l, n)
 
 pub alike_back : (a b : Link) → IsAlike a b → IsAlike b a
-alike_back a b e = (sym e.0, sym e.1, sym e.2)
+alike_back a b e = (sym e.0, sym e.1)
 
 pub alike_trans : (a b c : Link) → IsAlike a b → IsAlike b c → IsAlike a c
-alike_trans a b c e f = (e.0 ∙ f.0, e.1 ∙ f.1, e.2 ∙ f.2)
+alike_trans a b c e f = (e.0 ∙ f.0, e.1 ∙ f.1)
 
 pub alike_sooner : (a b c : Link) → IsAlike a b → IsSooner b c → IsSooner a c
 alike_sooner a b c e (inl l) = let n = e.0 in inl (omega (arith, l, n))
-alike_sooner a b c e (inr (d, inl l)) = let n = e.1 in inr (e.0 ∙ d, inl (omega (arith, l, n)))
-alike_sooner a b c e (inr (d, inr m)) = let l = m.1 in let n = e.2 in inr (e.0 ∙ d, inr (e.1 ∙ m.0, omega (arith, l, n)))
+alike_sooner a b c e (inr (d, l)) = let n = e.1 in inr (e.0 ∙ d, omega (arith, l, n))
 
 sooner_alike : (a b c : Link) → IsSooner a b → IsAlike b c → IsSooner a c
 sooner_alike a b c (inl l) e = let n = e.0 in inl (omega (arith, l, n))
-sooner_alike a b c (inr (d, inl l)) e = let n = e.1 in inr (d ∙ e.0, inl (omega (arith, l, n)))
-sooner_alike a b c (inr (d, inr m)) e = let l = m.1 in let n = e.2 in inr (d ∙ e.0, inr (m.0 ∙ e.1, omega (arith, l, n)))
+sooner_alike a b c (inr (d, l)) e = let n = e.1 in inr (d ∙ e.0, omega (arith, l, n))
 
 sooner_trans : (a b c : Link) → IsSooner a b → IsSooner b c → IsSooner a c
 sooner_trans a b c (inl l) (inl m) = inl (omega (arith, l, m))
 sooner_trans a b c (inl l) (inr m) = let n = m.0 in inl (omega (arith, l, n))
 sooner_trans a b c (inr l) (inl m) = let n = l.0 in inl (omega (arith, n, m))
-sooner_trans a b c (inr (c1, inl l)) (inr (c2, inl m)) = inr (c1 ∙ c2, inl (omega (arith, l, m)))
-sooner_trans a b c (inr (c1, inl l)) (inr (c2, inr m)) = let n = m.0 in inr (c1 ∙ c2, inl (omega (arith, l, n)))
-sooner_trans a b c (inr (c1, inr l)) (inr (c2, inl m)) = let n = l.0 in inr (c1 ∙ c2, inl (omega (arith, n, m)))
-sooner_trans a b c (inr (c1, inr l)) (inr (c2, inr m)) = let s = l.1 in let t = m.1 in inr (c1 ∙ c2, inr (l.0 ∙ m.0, omega (arith, s, t)))
+sooner_trans a b c (inr (c1, l)) (inr (c2, m)) = inr (c1 ∙ c2, omega (arith, l, m))
 
 -- the test of a heap, and of links that are level, in these words
 pub not_less : (a b : Link) → is_lt (key_order b a) ≡ false → IsAlike a b ⊎ IsSooner a b
@@ -138,10 +111,10 @@ not_less a b h = elim (one_of a b) [
 
 pub level_told : (a b : Link) → Told (is_eq (key_order b a)) (IsAlike a b) (IsAlike a b → ⊥)
 level_told a b = elim (one_of a b) [
-  | inl e ↦ subst (λ (v : Bool). Told v (IsAlike a b) (IsAlike a b → ⊥)) (sym (ap is_eq (alike_equal b a (sym e.0, sym e.1, sym e.2)))) e
+  | inl e ↦ subst (λ (v : Bool). Told v (IsAlike a b) (IsAlike a b → ⊥)) (sym (ap is_eq (alike_equal b a (sym e.0, sym e.1)))) e
   | inr r ↦ elim r [
     | inl s ↦ subst (λ (v : Bool). Told v (IsAlike a b) (IsAlike a b → ⊥)) (sym (ap is_eq (back_greater a b s))) (apart a b s)
-    | inr s ↦ subst (λ (v : Bool). Told v (IsAlike a b) (IsAlike a b → ⊥)) (sym (ap is_eq (sooner_less b a s))) (λ e. apart b a s (sym e.0, sym e.1, sym e.2))
+    | inr s ↦ subst (λ (v : Bool). Told v (IsAlike a b) (IsAlike a b → ⊥)) (sym (ap is_eq (sooner_less b a s))) (λ e. apart b a s (sym e.0, sym e.1))
   ]
 ]
 

@@ -10,6 +10,7 @@ pub mod LoopLaws
 pub mod NumberLaws
 pub mod Order
 pub mod PlaceLaws
+pub mod RankLaws
 pub mod ReadyLaws
 pub mod Settle
 pub mod TailLaws

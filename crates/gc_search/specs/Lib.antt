@@ -7,5 +7,6 @@ pub mod HeapOrder
 pub mod Links
 pub mod Passages
 pub mod Places
+pub mod Ranks
 pub mod Tails
 pub mod Waiting

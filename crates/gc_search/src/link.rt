@@ -74,7 +74,7 @@ impl PartialOrd for Link {
 }
 
 // The walk that is taken first is the greatest, since a heap hands out the greatest. Walks that are alike
-// in cost, number of edges and node are level.
+// in cost and number of edges are level.
 impl Ord for Link {
     ghost cmp = { heap_order };
 
@@ -89,6 +89,5 @@ impl Ord for Link {
             .cost
             .cmp(&self.cost)
             .then(other.edges.cmp(&self.edges))
-            .then(other.at.node.cmp(&self.at.node))
     }
 }

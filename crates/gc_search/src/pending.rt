@@ -15,10 +15,10 @@ use std::alloc::Global;
 use std::collections::BinaryHeap;
 use std::marker::Model;
 
-// The walks that are pending. Those that are alike in cost, number of edges and node to the one that was
-// taken last stand in front, the least behind the others, and are taken first; the others stand in a
-// heap, which hands out the greatest: the order of walks is turned around for it. The order in which
-// contracts see the heap means nothing.
+// The walks that are pending. Those that are alike in cost and number of edges to the one that was taken
+// last stand in front, the least behind the others, and are taken first; the others stand in a heap,
+// which hands out the greatest: the order of walks is turned around for it. The order in which contracts
+// see the heap means nothing.
 #[derive(Drop)]
 pub(crate) struct Pending {
     front: Vec<Link>,

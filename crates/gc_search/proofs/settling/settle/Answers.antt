@@ -14,7 +14,7 @@ use Rattle.gc_search.specs.Passages.{Has, Passage, IsOnward, IsCounted, Reach, I
 use Rattle.gc_search.specs.Places.{Listing, tree_of}
 use Rattle.gc_search.specs.Waiting.{links_of, told_by, walks_by, waiting, IsFilled, IsGrown}
 use Rattle.gc_search.proofs.ReadyLaws.{IsReady, ready_start, ready_filled, ready_old, grown_by, taken_has_number, ready_settled, are_behind, led_on, next_got, low_there}
-use Rattle.gc_search.proofs.Turns.{turn_end, turn_done, turn_small, turn_unseen}
+use Rattle.gc_search.proofs.Turns.{turn_end, turn_done, turn_small, turn_later, turn_unseen}
 use Rattle.gc_search.proofs.WaitingLaws.{queue}
 use Rattle.gc_search.proofs.WorkLaws.{asked_most, asked_more, open_fewer}
 use Rattle.gc_search.proofs.settling.settle.Goals as goal
@@ -53,7 +53,7 @@ returns-clause-first g c = λ p asked.
     let inv = c.turns.invariant in
     let source = c.args.source in
     let k = c.args.k in
-    let costs = subst (λ (s : Setting). (v : Pair) (m : Passage Pair) → Has (passages s v) m → IsOnward (λ r. r.node) v m) (sym inv.same) c.requires.costs in
+    let costs = subst (λ (s : Setting). (v : Pair) (m : Passage Pair) → Has (passages s v) m → IsOnward m) (sym inv.same) c.requires.costs in
     subst (λ (s : Setting). IsFirstK k (Reach (passages s) (pair source 0) p) (settled_at l.walks p)) inv.same
     (turn_done l.setting source k costs c.args.target l.walks (waiting (tree_of l) c.turns.pending) inv.ready.on (c.is_done.ensures c.turns-test.false) p asked)
 
@@ -115,6 +115,20 @@ push-requires-clause-number g c =
     let first = c.in-Some.ensures.some (tree_of l) ready.queue in
     let w = told_by (tree_of l) t in
     taken_has_number source k l q r t ready first
+
+pub push-requires-clause-later : goal.push-requires-clause-later
+push-requires-clause-later g c =
+    let l = c.turns.settled in
+    let inv = c.turns.invariant in
+    let source = c.args.source in
+    let k = c.args.k in
+    let q = c.fill_front.new.self in
+    let filled = subst (λ (s : Listing). IsFilled (tree_of s) c.turns.pending q) c.settled-in-turns.view_is c.in_ok-fill_front.ensures in
+    let ready = ready_filled source k l c.turns.pending q inv.ready filled in
+    let r = c.take_least.new.self in
+    let t = c.in-Some.next in
+    let first = c.in-Some.ensures.some (tree_of l) ready.queue in
+    turn_later l.setting source k l.walks (waiting (tree_of l) q) (waiting (tree_of l) r) (told_by (tree_of l) t) ready.on first.takes
 
 pub add_all_extended-requires-clause-low : goal.add_all_extended-requires-clause-low
 add_all_extended-requires-clause-low g c =
@@ -189,7 +203,7 @@ turns-preserved-in-Continue-branch-6 g c =
     let is : c.push.new.self ≡ grown_by l w = c.in_ok-push.ensures in
     let place : length l.walks ≡ c.count-place.result = omega (arith, c.count-place.ensures.exact, ap (λ (s : Listing). length s.walks) c.settled-in-turns.view_is) in
     let there = subst (λ (s : Listing). slice_get s.walks c.count-place.result ≡ Some w) (sym is) (subst (λ n. slice_get (l.walks ++ w ∷ []) n ≡ Some w) place (next_got l.walks w)) in
-    let costs = subst (λ (s : Setting). (v : Pair) (m : Passage Pair) → Has (passages s v) m → IsOnward (λ r. r.node) v m) (sym inv.same) c.requires.costs in
+    let costs = subst (λ (s : Setting). (v : Pair) (m : Passage Pair) → Has (passages s v) m → IsOnward m) (sym inv.same) c.requires.costs in
     let plain = subst (λ (s : Setting). c.args.plain ≡ true → (v : Pair) (m : Passage Pair) → Has (passages s v) m → IsCounted m) (sym inv.same) c.requires.plain in
     let told = c.if-is_new.ensures.told in
     let fresh : IsNew l.walks k w = (told.0, turn_unseen l.setting source k l.walks (waiting (tree_of l) q) (waiting (tree_of l) r) w ready.on first.takes c.args.plain plain told.1) in
@@ -227,7 +241,7 @@ turns-smaller-in-Continue-branch-6 g c =
     let is : c.push.new.self ≡ grown_by l w = c.in_ok-push.ensures in
     let place : length l.walks ≡ c.count-place.result = omega (arith, c.count-place.ensures.exact, ap (λ (s : Listing). length s.walks) c.settled-in-turns.view_is) in
     let there = subst (λ (s : Listing). slice_get s.walks c.count-place.result ≡ Some w) (sym is) (subst (λ n. slice_get (l.walks ++ w ∷ []) n ≡ Some w) place (next_got l.walks w)) in
-    let costs = subst (λ (s : Setting). (v : Pair) (m : Passage Pair) → Has (passages s v) m → IsOnward (λ r. r.node) v m) (sym inv.same) c.requires.costs in
+    let costs = subst (λ (s : Setting). (v : Pair) (m : Passage Pair) → Has (passages s v) m → IsOnward m) (sym inv.same) c.requires.costs in
     let plain = subst (λ (s : Setting). c.args.plain ≡ true → (v : Pair) (m : Passage Pair) → Has (passages s v) m → IsCounted m) (sym inv.same) c.requires.plain in
     let told = c.if-is_new.ensures.told in
     let fresh : IsNew l.walks k w = (told.0, turn_unseen l.setting source k l.walks (waiting (tree_of l) q) (waiting (tree_of l) r) w ready.on first.takes c.args.plain plain told.1) in
