@@ -1,13 +1,12 @@
 -- Filling the front: walks that are alike, sorted by their edges.
-use Rattle.std.proofs.Common.{◌≡◌, ℕ, suc, ◌+◌, ◌<◌, false, List, [], ◌∷◌, ◌++◌, map, length, slice_index_or, inl, inr, refl, sym, ap, subst, ◌∙◌, arith, append_assoc, Ordering, Less, Equal, Greater}
+use Rattle.std.proofs.Common.{◌≡◌, ℕ, suc, ◌+◌, ◌<◌, false, List, [], ◌∷◌, ◌++◌, map, length, slice_index_or, inl, inr, refl, sym, ap, subst, ◌∙◌, arith, Ordering, Less, Equal, Greater}
 use Rattle.std.specs.Cmp.{IsTotalOrder, nat_cmp_total, on_total, then_total, back_total}
 use Rattle.std.specs.Cmp.Lexicographic.{slice_cmp, nat_list_cmp_total}
-use Rattle.std.specs.List.{AllByRecursion}
 use Rattle.std.specs.List.Sorted.{IsPermutation, IsSorted}
 use Rattle.std.specs.Ordering.{MatchOrdering, nat_cmp, is_lt, ordering_then}
 use Rattle.std.proofs.lemmas.Cmp.{ranked}
 use Rattle.std.proofs.lemmas.List.{length-map}
-use Rattle.std.proofs.lemmas.List.Sorted.{IsPermutation-sym, IsPermutation-trans, IsPermutation-append_left, IsPermutation-append_right, length_permutation}
+use Rattle.std.proofs.lemmas.List.Sorted.{IsPermutation-sym, IsPermutation-trans, IsPermutation-append_left, length_permutation}
 use Rattle.gc_base.specs.declared.walk.Step.{Step}
 use Rattle.gc_prod.specs.Products.{Setting}
 use Rattle.gc_search.specs.Arrivals.{FoundWalk, entry_of, NoLater}
@@ -16,9 +15,9 @@ use Rattle.gc_search.specs.Links.{Link, Walks, IsTold}
 use Rattle.gc_search.specs.Passages.{Has}
 use Rattle.gc_search.specs.Tails.{edges_told, edges_order}
 use Rattle.gc_search.specs.Waiting.{Queue, links_of, told_by, Falls, IsAlike, IsSooner, IsQueue, AreFirst, IsFilled}
+use Rattle.gc_search.proofs.Bridge.{has_permuted}
 use Rattle.gc_search.proofs.Flat.{Has_later, Has_from_map}
-use Rattle.gc_search.proofs.HeapLaws.{has_permuted, none_there, alike_back, alike_trans, alike_sooner}
-use Rattle.gc_search.proofs.LoopLaws.{lex_ranked, all_has, all_of_has}
+use Rattle.gc_search.proofs.LoopLaws.{lex_ranked, all_has, all_of_has, none_there}
 use Rattle.gc_search.proofs.Order.{entry_eq}
 use Rattle.gc_search.proofs.Settle.{Has_front}
 use Rattle.gc_search.proofs.WaitingLaws.{queue, no_later_trans}
@@ -110,22 +109,3 @@ module _ (tree : Walks) where
     where
       no_front : front ≡ [] → middle.front ≡ []
       no_front none = none_there middle.front (omega (arith, length_permutation middle.front front p, ap length none))
-
--- the first of a heap is put in front, and then one more that is alike
-pub started : (front later after pushed : List Link) (first : Link) → front ≡ [] → IsPermutation later (first ∷ after) → pushed ≡ front ++ first ∷ [] → IsPermutation (front ++ later) (pushed ++ after)
-started front later after pushed first none p is =
-    let all : pushed ≡ first ∷ [] = is ∙ ap (λ l. l ++ first ∷ []) none in
-    subst (λ v. IsPermutation (v ++ later) (pushed ++ after)) (sym none) (subst (λ v. IsPermutation later (v ++ after)) (sym all) p)
-
-pub moved_one : (start front later front' later' front'' : List Link) (next : Link) → front' ≡ front → IsPermutation later (next ∷ later') → front'' ≡ front' ++ next ∷ [] → IsPermutation start (front ++ later)
-    → IsPermutation start (front'' ++ later')
-moved_one start front later front' later' front'' next same p is from =
-    let all : front'' ++ later' ≡ front ++ next ∷ later' = ap (λ v. v ++ later') (is ∙ ap (λ v. v ++ next ∷ []) same) ∙ append_assoc front (next ∷ []) later' in
-    subst (IsPermutation start) (sym all) (IsPermutation-trans start (front ++ later) (front ++ next ∷ later') from (IsPermutation-append_right front later (next ∷ later') p))
-
-pub are_first : (a : Link) (q : Queue) → AllByRecursion (IsAlike a) q.front → AllByRecursion (IsSooner a) q.later → (q.front ≡ [] → ⊥) → AreFirst q
-are_first a q alike sooner some = record {
-  alike = λ x y h g. alike_trans x a y (alike_back a x (all_has (IsAlike a) q.front x alike h)) (all_has (IsAlike a) q.front y alike g);
-  sooner = λ x y h g. alike_sooner x a y (alike_back a x (all_has (IsAlike a) q.front x alike h)) (all_has (IsSooner a) q.later y sooner g);
-  some = λ none. absurd (some none);
-}

@@ -5,7 +5,7 @@ pub mod First
 pub mod FirstLaws
 pub mod Flat
 pub mod FrontLaws
-pub mod HeapLaws
+pub mod GroupLaws
 pub mod LoopLaws
 pub mod NumberLaws
 pub mod Order

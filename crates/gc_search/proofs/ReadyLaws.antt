@@ -13,8 +13,8 @@ use Rattle.gc_search.specs.Links.{Link, Walks, starts_at, IsTold}
 use Rattle.gc_search.specs.Passages.{Has, Passage, IsOnward}
 use Rattle.gc_search.specs.Places.{Listing, IsFresh, IsNumbered, tree_of}
 use Rattle.gc_search.specs.Waiting.{Queue, links_of, told_by, walks_by, waiting, AllTold, Falls, IsQueue, IsLed, IsFirstTaken, IsFilled, IsBehind, IsGrown}
+use Rattle.gc_search.proofs.Bridge.{has_permuted}
 use Rattle.gc_search.proofs.Flat.{Has_later}
-use Rattle.gc_search.proofs.HeapLaws.{has_permuted}
 use Rattle.gc_search.proofs.LoopLaws.{all_has, all_of_has}
 use Rattle.gc_search.proofs.NumberLaws.{LeadNumbered, AreNumbered, leads_numbered, taken_numbered, rest_numbered, more_numbered}
 use Rattle.gc_search.proofs.Settle.{Has_front}

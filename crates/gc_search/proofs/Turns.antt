@@ -12,9 +12,8 @@ use Rattle.gc_search.specs.Arrivals.{FoundWalk, entry_of, arrivals_at, settled_a
 use Rattle.gc_search.specs.Finding.{IsFollowed}
 use Rattle.gc_search.specs.Passages.{Has, Passage, IsOnward, IsCounted, Reach, IsFirstK}
 use Rattle.gc_search.specs.Ranks.{AreNoLater}
-use Rattle.gc_search.proofs.Bridge.{contains_of, follows_push}
+use Rattle.gc_search.proofs.Bridge.{contains_of, follows_push, has_permuted}
 use Rattle.gc_search.proofs.Flat.{IsPending, State, state_start, state_end, state_same, state_seen, state_full, state_full_at, state_settle, settled_has, Has_from_map, Has_filtered}
-use Rattle.gc_search.proofs.HeapLaws.{has_permuted}
 use Rattle.gc_search.proofs.Settle.{last_alone}
 use Rattle.gc_search.proofs.LoopLaws.{all_has, all_of_has, all_rest, costs_more}
 

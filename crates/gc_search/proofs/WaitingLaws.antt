@@ -13,8 +13,8 @@ use Rattle.gc_search.specs.Entries.{Entry, extend, IsMoveCost, Same, Strictly, A
 use Rattle.gc_search.specs.Links.{Link, Walks, IsTold}
 use Rattle.gc_search.specs.Passages.{Has, Passage, IsOnward}
 use Rattle.gc_search.specs.Waiting.{Queue, links_of, told_by, walks_by, waiting, AllTold, Falls, IsQueue, IsLed, IsFirstTaken, IsBehind}
+use Rattle.gc_search.proofs.Bridge.{has_permuted}
 use Rattle.gc_search.proofs.Flat.{Has_cases, Has_later, Has_map, Has_from_map, Has_filtered, entry_extended}
-use Rattle.gc_search.proofs.HeapLaws.{has_permuted}
 use Rattle.gc_search.proofs.LoopLaws.{all_has, all_of_has}
 use Rattle.gc_search.proofs.Order.{entry_eq, at_most_trans, at_most_extend}
 use Rattle.gc_search.proofs.Settle.{Has_front, Has_back, Has_pushed}

@@ -3,7 +3,7 @@ pub mod Counting
 pub mod Entries
 pub mod Finding
 pub mod FirstWalks
-pub mod HeapOrder
+pub mod Groups
 pub mod Links
 pub mod Passages
 pub mod Places

@@ -1,4 +1,4 @@
--- Walks that are pending: some in front, which come before all others, and the others in a heap.
+-- Walks that are pending: some in front, which come before all others, and the others in groups.
 use Rattle.std.specs.Prelude.{◌≡◌, ◌⊎◌, ℕ, ◌+◌, ◌<◌, ◌≤◌, ◌^◌, List, [], ◌∷◌, ◌++◌, map}
 use Rattle.std.specs.List.{AllByRecursion}
 use Rattle.std.specs.List.Sorted.{IsPermutation}
@@ -30,11 +30,6 @@ IsAlike a b = (a.cost ≡ b.cost) × (a.edges ≡ b.edges)
 
 abbrev pub IsSooner : Link → Link → Type 0
 IsSooner a b = (a.cost < b.cost) ⊎ ((a.cost ≡ b.cost) × (a.edges < b.edges))
-
--- the first of a heap, if it has one, is alike to a walk
-abbrev pub HasAlike : Link → List Link → Type 0
-HasAlike a [] = Unit {0}
-HasAlike a (x ∷ later) = IsAlike a x
 
 -- all are told beside a tree
 abbrev pub AllTold : Walks → List Link → Type 0

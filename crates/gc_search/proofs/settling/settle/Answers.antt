@@ -42,7 +42,7 @@ returns-in_default-clause-first g c = λ p asked.
     let source = c.args.source in
     let k = c.args.k in
     let q = c.fill_front.new.self in
-    let filled = subst (λ (s : Listing). IsFilled (tree_of s) c.turns.pending q) c.settled-in-turns.view_is c.in_ok-fill_front.ensures in
+    let filled = subst (λ (s : Listing). IsFilled (tree_of s) c.turns.pending q) c.settled-in-turns.view_is c.fill_front.ensures in
     let ready = ready_filled source k l c.turns.pending q inv.ready filled in
     let none : waiting (tree_of l) q ≡ [] = ap (λ (v : List Link). walks_by (tree_of l) v) c.in_default.ensures.none in
     subst (λ (s : Setting). IsFirstK k (Reach (passages s) (pair source 0) p) (settled_at l.walks p)) inv.same (turn_end l.setting source k l.walks (waiting (tree_of l) q) ready.on none p)
@@ -56,11 +56,6 @@ returns-clause-first g c = λ p asked.
     let costs = subst (λ (s : Setting). (v : Pair) (m : Passage Pair) → Has (passages s v) m → IsOnward m) (sym inv.same) c.requires.costs in
     subst (λ (s : Setting). IsFirstK k (Reach (passages s) (pair source 0) p) (settled_at l.walks p)) inv.same
     (turn_done l.setting source k costs c.args.target l.walks (waiting (tree_of l) c.turns.pending) inv.ready.on (c.is_done.ensures c.turns-test.false) p asked)
-
-pub returns-in_err-fill_front-clause-few : goal.returns-in_err-fill_front-clause-few
-returns-in_err-fill_front-clause-few g c =
-    let l = c.turns.settled in
-    omega (arith, c.turns.invariant.few, asked_most l.setting c.args.k l.walks c.turns.invariant.ready.on.state.few, ap (λ (s : Setting). c.args.k * most_moves s) c.turns.invariant.same)
 
 pub returns-in_default-clause-few : goal.returns-in_default-clause-few
 returns-in_default-clause-few g c =
@@ -108,7 +103,7 @@ push-requires-clause-number g c =
     let source = c.args.source in
     let k = c.args.k in
     let q = c.fill_front.new.self in
-    let filled = subst (λ (s : Listing). IsFilled (tree_of s) c.turns.pending q) c.settled-in-turns.view_is c.in_ok-fill_front.ensures in
+    let filled = subst (λ (s : Listing). IsFilled (tree_of s) c.turns.pending q) c.settled-in-turns.view_is c.fill_front.ensures in
     let ready = ready_filled source k l c.turns.pending q inv.ready filled in
     let r = c.take_least.new.self in
     let t = c.in-Some.next in
@@ -123,7 +118,7 @@ push-requires-clause-later g c =
     let source = c.args.source in
     let k = c.args.k in
     let q = c.fill_front.new.self in
-    let filled = subst (λ (s : Listing). IsFilled (tree_of s) c.turns.pending q) c.settled-in-turns.view_is c.in_ok-fill_front.ensures in
+    let filled = subst (λ (s : Listing). IsFilled (tree_of s) c.turns.pending q) c.settled-in-turns.view_is c.fill_front.ensures in
     let ready = ready_filled source k l c.turns.pending q inv.ready filled in
     let r = c.take_least.new.self in
     let t = c.in-Some.next in
@@ -137,7 +132,7 @@ add_all_extended-requires-clause-low g c =
     let source = c.args.source in
     let k = c.args.k in
     let q = c.fill_front.new.self in
-    let filled = subst (λ (s : Listing). IsFilled (tree_of s) c.turns.pending q) c.settled-in-turns.view_is c.in_ok-fill_front.ensures in
+    let filled = subst (λ (s : Listing). IsFilled (tree_of s) c.turns.pending q) c.settled-in-turns.view_is c.fill_front.ensures in
     let ready = ready_filled source k l c.turns.pending q inv.ready filled in
     let r = c.take_least.new.self in
     let t = c.in-Some.next in
@@ -157,7 +152,7 @@ turns-preserved g c =
     let source = c.args.source in
     let k = c.args.k in
     let q = c.fill_front.new.self in
-    let filled = subst (λ (s : Listing). IsFilled (tree_of s) c.turns.pending q) c.settled-in-turns.view_is c.in_ok-fill_front.ensures in
+    let filled = subst (λ (s : Listing). IsFilled (tree_of s) c.turns.pending q) c.settled-in-turns.view_is c.fill_front.ensures in
     let ready = ready_filled source k l c.turns.pending q inv.ready filled in
     let r = c.take_least.new.self in
     let t = c.in-Some.next in
@@ -172,7 +167,7 @@ turns-smaller g c =
     let source = c.args.source in
     let k = c.args.k in
     let q = c.fill_front.new.self in
-    let filled = subst (λ (s : Listing). IsFilled (tree_of s) c.turns.pending q) c.settled-in-turns.view_is c.in_ok-fill_front.ensures in
+    let filled = subst (λ (s : Listing). IsFilled (tree_of s) c.turns.pending q) c.settled-in-turns.view_is c.fill_front.ensures in
     let ready = ready_filled source k l c.turns.pending q inv.ready filled in
     let r = c.take_least.new.self in
     let t = c.in-Some.next in
@@ -187,14 +182,14 @@ turns-smaller g c =
     )
 
 -- the least walk is settled
-pub turns-preserved-in-Continue-branch-6 : goal.turns-preserved-in-Continue-branch-6
-turns-preserved-in-Continue-branch-6 g c =
+pub turns-preserved-in-Continue-branch-5 : goal.turns-preserved-in-Continue-branch-5
+turns-preserved-in-Continue-branch-5 g c =
     let l = c.turns.settled in
     let inv = c.turns.invariant in
     let source = c.args.source in
     let k = c.args.k in
     let q = c.fill_front.new.self in
-    let filled = subst (λ (s : Listing). IsFilled (tree_of s) c.turns.pending q) c.settled-in-turns.view_is c.in_ok-fill_front.ensures in
+    let filled = subst (λ (s : Listing). IsFilled (tree_of s) c.turns.pending q) c.settled-in-turns.view_is c.fill_front.ensures in
     let ready = ready_filled source k l c.turns.pending q inv.ready filled in
     let r = c.take_least.new.self in
     let t = c.in-Some.next in
@@ -225,14 +220,14 @@ turns-preserved-in-Continue-branch-6 g c =
       few = omega (arith, inv.few, steps, one, single);
     }
 
-pub turns-smaller-in-Continue-branch-6 : goal.turns-smaller-in-Continue-branch-6
-turns-smaller-in-Continue-branch-6 g c =
+pub turns-smaller-in-Continue-branch-5 : goal.turns-smaller-in-Continue-branch-5
+turns-smaller-in-Continue-branch-5 g c =
     let l = c.turns.settled in
     let inv = c.turns.invariant in
     let source = c.args.source in
     let k = c.args.k in
     let q = c.fill_front.new.self in
-    let filled = subst (λ (s : Listing). IsFilled (tree_of s) c.turns.pending q) c.settled-in-turns.view_is c.in_ok-fill_front.ensures in
+    let filled = subst (λ (s : Listing). IsFilled (tree_of s) c.turns.pending q) c.settled-in-turns.view_is c.fill_front.ensures in
     let ready = ready_filled source k l c.turns.pending q inv.ready filled in
     let r = c.take_least.new.self in
     let t = c.in-Some.next in
