@@ -58,7 +58,7 @@ got_within [] i x h = cc
 got_within (y ∷ xs) zero x h = omega arith
 got_within (y ∷ xs) (suc i) x h = let l = got_within xs i x h in omega (arith, l)
 
-got_has : {X : Type 0} (xs : List X) (i : ℕ) (x : X) → slice_get xs i ≡ Some x → Has xs x
+pub got_has : {X : Type 0} (xs : List X) (i : ℕ) (x : X) → slice_get xs i ≡ Some x → Has xs x
 got_has [] i x h = cc
 got_has (y ∷ xs) zero x h = inl cc
 got_has (y ∷ xs) (suc i) x h = inr (got_has xs i x h)

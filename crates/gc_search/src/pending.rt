@@ -55,30 +55,33 @@ impl Pending {
         self.front.pop()
     }
 
-    // Fills the front where it is empty: with the first group, the least last.
-    pub(crate) fn fill_front(&mut self, tree: &WalkTree)
+    // Fills the front where it is empty: with the first group, the least last. Walks are settled in order, so
+    // those that extend them mostly came in order: turned around, a group is made of few runs, which this
+    // sort finds.
+    pub(crate) fn fill_front(&mut self, tree: &WalkTree) -> Result<(), Memory>
         requires { IsQueue tree.now self.old }
-        ensures { IsFilled tree.now self.old self.new }
+        ensures { OnOk result (IsFilled tree.now self.old self.new) }
     {
         if !self.front.is_empty() {
-            return;
+            return Ok(());
         }
         let Some((_, mut group)) = self.groups.pop_first() else {
-            return;
+            return Ok(());
         };
-        group.sort_unstable_by(|a, b| edges_order(tree, b, a));
+        group.reverse();
+        group.sort_by(|a, b| edges_order(tree, b, a))?;
         self.front = group;
+        Ok(())
     }
 
     // Adds walks that come behind one that was taken.
-    pub(crate) fn add_all(&mut self, last: &Link, more: &mut Vec<Link>) -> Result<(), Memory>
-        ensures added { OnOk result (IsPermutation (links_of self.old ++ more.old.items) (links_of self.new)) }
-        ensures none { OnOk result (more.new.items ≡ []) }
-        ensures led { OnOk result ((tree : Walks) → IsLed tree last.now self.old → AllByRecursion (IsBehind tree last.now) more.old.items
+    pub(crate) fn add_all(&mut self, last: &Link, more: &[Link]) -> Result<(), Memory>
+        ensures added { OnOk result (IsPermutation (links_of self.old ++ more.now) (links_of self.new)) }
+        ensures led { OnOk result ((tree : Walks) → IsLed tree last.now self.old → AllByRecursion (IsBehind tree last.now) more.now
             → IsLed tree last.now self.new) }
     {
-        while let Some(next) = more.pop() {
-            self.add(last, next)?;
+        for next in more {
+            self.add(last, *next)?;
         }
         Ok(())
     }

@@ -151,7 +151,7 @@ pub(crate) fn settle<'a, L: Ledger>(
     let mut pending = Pending::of(alloc, Link::start(source))?;
     let mut more = Vec::new(alloc);
     'turns: while !is_done(&settled, &target, k) {
-        pending.fill_front(&settled.tree);
+        pending.fill_front(&settled.tree)?;
         let Some(next) = pending.take_least() else {
             return Ok(settled);
         };
@@ -159,7 +159,8 @@ pub(crate) fn settle<'a, L: Ledger>(
             let place = settled.tree.count();
             settled.push(&next)?;
             add_all_extended(&settled, place, k, steps, &mut more)?;
-            pending.add_all(&next, &mut more)?;
+            pending.add_all(&next, &more)?;
+            more.clear();
         }
     }
     Ok(settled)
