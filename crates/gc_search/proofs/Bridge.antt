@@ -1,7 +1,9 @@
 -- Going along passages is going along runs: what is passed are the walks of runs at their costs.
 use Rattle.std.proofs.Common.{◌≡◌, ℕ, zero, suc, ◌+◌, List, [], ◌∷◌, ◌++◌, inl, inr, map, refl, sym, ap, subst, ◌∙◌, arith, append_assoc}
 use Rattle.std.specs.List.{Contains}
+use Rattle.std.specs.List.Sorted.{IsPermutation}
 use Rattle.std.proofs.lemmas.List.{append-nil, map-append}
+use Rattle.std.proofs.lemmas.List.Sorted.{Contains-permutation}
 use Rattle.gc_base.specs.Walks.{end_of, end_of_steps, edges_of}
 use Rattle.gc_base.specs.declared.walk.Step.{Step}
 use Rattle.gc_base.specs.declared.walk.Walk.{Walk}
@@ -32,6 +34,9 @@ pub contains_of : {X : Type 0} (xs : List X) (x : X) → Has xs x → Contains x
 contains_of [] x h = elim h [ ]
 contains_of (y ∷ xs) x (inl e) = subst (λ z. Contains (y ∷ xs) z) e (here y xs)
 contains_of (y ∷ xs) x (inr h) = there y xs x (contains_of xs x h)
+
+pub has_permuted : {X : Type 0} (xs ys : List X) (x : X) → IsPermutation xs ys → Has xs x → Has ys x
+has_permuted xs ys x p h = has_of ys x (Contains-permutation xs ys x p (contains_of xs x h))
 
 extend_none : (e : Entry) (c : ℕ) (w : List ℕ) → c ≡ 0 → w ≡ [] → e ≡ extend e c w
 extend_none e c w free still =

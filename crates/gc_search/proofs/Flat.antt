@@ -11,9 +11,9 @@ use Rattle.gc_prod.specs.declared.moves.Pair.{Pair}
 use Rattle.gc_prod.specs.Leading.{pair, target_of, steps_of}
 use Rattle.gc_prod.specs.Products.{Setting, moves}
 use Rattle.gc_search.specs.Arrivals.{FoundWalk, edges_along, entry_of, same_pair, arrivals_at, settled_at, passage, passages, stays_at, extended, extensions, open_moves, TakesLeast, IsSeen, IsNew}
-use Rattle.gc_search.specs.Entries.{Entry, entry, AtMost, AtMostAt, extend}
+use Rattle.gc_search.specs.Entries.{Entry, entry, AtMost, extend}
 use Rattle.gc_search.specs.Passages.{Has, Passage, IsOnward, Reach, IsFirstK}
-use Rattle.gc_search.proofs.Order.{at_most_here, at_most_at_trans, at_most_at_extend}
+use Rattle.gc_search.proofs.Order.{at_most_trans, at_most_extend}
 use Rattle.gc_search.proofs.Settle.{Has_front, Inv, IsDue, inv_start, inv_end, inv_full, inv_same, seen_covered, full_covered, inv_drop, inv_settle}
 
 eqb_same : (a b : ℕ) → (a == b) ≡ true → a ≡ b
@@ -90,6 +90,13 @@ filter_or test (y ∷ xs) x (inr h) = elim (filter_or test xs x h) [ inl fails �
     by true g = inr g
     by false g = g
 
+-- each of some walks is among those at its pair
+pub settled_has : (cs : List FoundWalk) (x : FoundWalk) → Has cs x → Has (settled_at cs x.at) (entry_of x)
+settled_has cs x h = elim (filter_or (λ (a : FoundWalk). same_pair a.at x.at) cs x h) [
+  | inl other ↦ let f : true ≡ false = sym (same_itself x.at) ∙ other in cc
+  | inr g ↦ Has_map entry_of (arrivals_at cs x.at) x g
+]
+
 pub Has_filtered : {X : Type 0} (test : X → Bool) (xs : List X) (x : X) → Has (filter test xs) x → Has xs x
 Has_filtered test [] x h = elim h [ ]
 Has_filtered test (y ∷ xs) x h = by (λ g. Has_filtered test xs x g) (test y) h
@@ -106,19 +113,16 @@ not_less a b h = grind (arith, nat_tests)
 pub entry_extended : (setting : Setting) (c : FoundWalk) (m : Move) → entry_of (extended setting c m) ≡ extend (entry_of c) m.cost (edges_along (steps_of setting m))
 entry_extended setting c m = ap (λ (w : List ℕ). entry (c.cost + m.cost) w) (map-append (λ (s : Step). s.edge) c.steps (steps_of setting m))
 
-abbrev pub node_of : Pair → ℕ
-node_of q = q.node
-
 -- an entry is pending at a pair
 abbrev pub IsPending : List FoundWalk → Pair → Entry → Type 0
 IsPending cs p e = (c : FoundWalk) × Has cs c × (c.at ≡ p) × (entry_of c ≡ e)
 
 module _ (setting : Setting) (source : ℕ) (k : ℕ) where
   abbrev pub State : List FoundWalk → List FoundWalk → Type 0
-  State settled pending = Inv Pair (passages setting) (pair source 0) k node_of (settled_at settled) (IsPending pending)
+  State settled pending = Inv Pair (passages setting) (pair source 0) k (settled_at settled) (IsPending pending)
 
   pub state_start : State [] (stays_at source ∷ [])
-  state_start = inv_start Pair (passages setting) (pair source 0) k node_of (IsPending (stays_at source ∷ [])) (stays_at source, inl refl, refl, refl)
+  state_start = inv_start Pair (passages setting) (pair source 0) k (IsPending (stays_at source ∷ [])) (stays_at source, inl refl, refl, refl)
       (λ p e h. elim (h.1) [
         | inl d ↦ (sym (ap (λ (v : FoundWalk). v.at) d ∙ h.2), sym (ap entry_of d ∙ h.3))
         | inr g ↦ elim g [ ]
@@ -126,14 +130,14 @@ module _ (setting : Setting) (source : ℕ) (k : ℕ) where
 
   pub state_same : (settled xs ys : List FoundWalk) → ((x : FoundWalk) → Has xs x → Has ys x) → ((x : FoundWalk) → Has ys x → Has xs x) → State settled xs → State settled ys
   state_same settled xs ys there back s =
-      inv_same Pair (passages setting) (pair source 0) k node_of (settled_at settled) (IsPending xs) (IsPending ys) s (λ p x h. (h.0, there h.0 h.1, h.2, h.3)) (λ p x h. (h.0, back h.0 h.1, h.2, h.3))
+      inv_same Pair (passages setting) (pair source 0) k (settled_at settled) (IsPending xs) (IsPending ys) s (λ p x h. (h.0, there h.0 h.1, h.2, h.3)) (λ p x h. (h.0, back h.0 h.1, h.2, h.3))
 
   pub state_end : (settled : List FoundWalk) → State settled [] → (q : Pair) → IsFirstK k (Reach (passages setting) (pair source 0) q) (settled_at settled q)
-  state_end settled s = inv_end Pair (passages setting) (pair source 0) k node_of (settled_at settled) (IsPending []) s (λ p e h. h.1)
+  state_end settled s = inv_end Pair (passages setting) (pair source 0) k (settled_at settled) (IsPending []) s (λ p e h. h.1)
 
-  pub state_full_at : ((p : Pair) (m : Passage Pair) → Has (passages setting p) m → IsOnward node_of p m) → (settled cs : List FoundWalk) → State settled cs
+  pub state_full_at : ((p : Pair) (m : Passage Pair) → Has (passages setting p) m → IsOnward m) → (settled cs : List FoundWalk) → State settled cs
       → (q : Pair) → k ≤ length (settled_at settled q) → IsFirstK k (Reach (passages setting) (pair source 0) q) (settled_at settled q)
-  state_full_at costs settled cs s = inv_full Pair (passages setting) (pair source 0) k node_of costs (settled_at settled) (IsPending cs) s
+  state_full_at costs settled cs s = inv_full Pair (passages setting) (pair source 0) k costs (settled_at settled) (IsPending cs) s
 
   module _ (settled cs rest : List FoundWalk) (c : FoundWalk) (s : State settled cs) (t : TakesLeast cs c rest) where
     taken : IsPending cs c.at (entry_of c)
@@ -150,13 +154,13 @@ module _ (setting : Setting) (source : ℕ) (k : ℕ) where
 
     pub state_seen : IsSeen settled c → State settled rest
     state_seen seen =
-        inv_drop Pair (passages setting) (pair source 0) k node_of (settled_at settled) (IsPending cs) (IsPending rest) s c.at (entry_of c)
-        (seen_covered Pair (passages setting) (pair source 0) k node_of (settled_at settled) (IsPending cs) s c.at (entry_of c) taken seen.0 seen.1 seen.2) fewer kept
+        inv_drop Pair (passages setting) (pair source 0) k (settled_at settled) (IsPending cs) (IsPending rest) s c.at (entry_of c)
+        (seen_covered Pair (passages setting) (pair source 0) k (settled_at settled) (IsPending cs) s c.at (entry_of c) taken seen.0 seen.1 seen.2) fewer kept
 
     pub state_full : k ≤ length (settled_at settled c.at) → State settled rest
     state_full full =
-        inv_drop Pair (passages setting) (pair source 0) k node_of (settled_at settled) (IsPending cs) (IsPending rest) s c.at (entry_of c)
-        (full_covered Pair (passages setting) (pair source 0) k node_of (settled_at settled c.at) (entry_of c) (λ x h. at_most_here c.at.node x (entry_of c) (s.ordered c.at c.at x (entry_of c) h taken)) full) fewer kept
+        inv_drop Pair (passages setting) (pair source 0) k (settled_at settled) (IsPending cs) (IsPending rest) s c.at (entry_of c)
+        (full_covered Pair (passages setting) (pair source 0) k (settled_at settled c.at) (entry_of c) (λ x h. s.ordered c.at c.at x (entry_of c) h taken) full) fewer kept
 
     abbrev all_moves : List Move
     all_moves = moves setting c.at.node c.at.state
@@ -167,9 +171,9 @@ module _ (setting : Setting) (source : ℕ) (k : ℕ) where
     abbrev fresh : List FoundWalk
     fresh = extensions setting c (open_moves after k all_moves)
 
-    module _ (costs : (p : Pair) (m : Passage Pair) → Has (passages setting p) m → IsOnward node_of p m) where
+    module _ (costs : (p : Pair) (m : Passage Pair) → Has (passages setting p) m → IsOnward m) where
       -- an extension is pending, or its pair has k walks that come before it
-      onward_by : (m : Move) → Has all_moves m → IsDue Pair (passages setting) (pair source 0) k node_of (settled_at after) (IsPending (rest ++ fresh)) (target_of m) (extend (entry_of c) m.cost (edges_along (steps_of setting m)))
+      onward_by : (m : Move) → Has all_moves m → IsDue Pair (passages setting) (pair source 0) k (settled_at after) (IsPending (rest ++ fresh)) (target_of m) (extend (entry_of c) m.cost (edges_along (steps_of setting m)))
       onward_by m h =
           let x = passage setting m in
           let q = target_of m in
@@ -180,21 +184,21 @@ module _ (setting : Setting) (source : ℕ) (k : ℕ) where
             | inl full ↦
                 let many : k ≤ length (arrivals_at after q) = not_less (length (arrivals_at after q)) k full in
                 let on = costs c.at x (Has_map (passage setting) all_moves m h) in
-                let further = at_most_at_extend c.at.node q.node (entry_of c) x.cost x.edges on.0 on.1 in
-                inl (full_covered Pair (passages setting) (pair source 0) k node_of (settled_at after q) e
+                let further = at_most_extend (entry_of c) x.cost x.edges on in
+                inl (full_covered Pair (passages setting) (pair source 0) k (settled_at after q) e
                 (λ y g. elim (Has_cases (settled_at settled q) (settled_at (c ∷ []) q) y (subst (λ l. Has l y) (settled_at-append settled (c ∷ []) q) g)) [
-                  | inl h ↦ at_most_here q.node y e (at_most_at_trans q.node c.at.node q.node y (entry_of c) e (s.ordered q c.at y (entry_of c) h taken) further)
+                  | inl h ↦ at_most_trans y (entry_of c) e (s.ordered q c.at y (entry_of c) h taken) further
                   | inr h ↦
                       let one = only_at (same_pair c.at q) c q y refl h in
-                      subst (λ v. AtMost v e) one.1 (at_most_here q.node (entry_of c) e (subst (λ (p : Pair). AtMostAt p.node (entry_of c) q.node e) one.0 further))
+                      subst (λ v. AtMost v e) one.1 further
                 ])
                 (omega (arith, many, length-map (arrivals_at after q) entry_of)))
           ]
 
-      onward : (m : Passage Pair) → Has (passages setting c.at) m → IsDue Pair (passages setting) (pair source 0) k node_of (settled_at after) (IsPending (rest ++ fresh)) m.to (extend (entry_of c) m.cost m.edges)
+      onward : (m : Passage Pair) → Has (passages setting c.at) m → IsDue Pair (passages setting) (pair source 0) k (settled_at after) (IsPending (rest ++ fresh)) m.to (extend (entry_of c) m.cost m.edges)
       onward m h =
           let from = Has_from_map (passage setting) all_moves m h in
-          subst (λ (v : Passage Pair). IsDue Pair (passages setting) (pair source 0) k node_of (settled_at after) (IsPending (rest ++ fresh)) v.to (extend (entry_of c) v.cost v.edges)) from.2 (onward_by from.0 from.1)
+          subst (λ (v : Passage Pair). IsDue Pair (passages setting) (pair source 0) k (settled_at after) (IsPending (rest ++ fresh)) v.to (extend (entry_of c) v.cost v.edges)) from.2 (onward_by from.0 from.1)
 
       came : (p : Pair) (x : Entry) → IsPending (rest ++ fresh) p x → IsPending cs p x ⊎ ((m : Passage Pair) × Has (passages setting c.at) m × (m.to ≡ p) × (extend (entry_of c) m.cost m.edges ≡ x))
       came p x h = elim (Has_cases rest fresh h.0 h.1) [
@@ -211,11 +215,9 @@ module _ (setting : Setting) (source : ℕ) (k : ℕ) where
 
       pub state_settle : IsNew settled k c → State (settled ++ c ∷ []) (rest ++ fresh)
       state_settle new =
-          inv_settle Pair (passages setting) (pair source 0) k node_of costs (settled_at settled) (settled_at (settled ++ c ∷ [])) (IsPending cs) (IsPending (rest ++ fresh)) c.at (entry_of c) s (record {
+          inv_settle Pair (passages setting) (pair source 0) k costs (settled_at settled) (settled_at (settled ++ c ∷ [])) (IsPending cs) (IsPending (rest ++ fresh)) c.at (entry_of c) s (record {
             taken = taken;
-            least = λ p x h.
-                subst (λ (q : Pair). AtMostAt c.at.node (entry_of c) q.node x) h.2
-                (subst (λ (e : Entry). AtMostAt c.at.node (entry_of c) (h.0).at.node e) h.3 (t.least h.0 h.1));
+            least = λ p x h. subst (AtMost (entry_of c)) h.3 (t.least h.0 h.1);
             new = λ x h e. new.1 (x, h, e);
             room = new.0;
             pushed = settled_here settled c;

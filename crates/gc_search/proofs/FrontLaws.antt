@@ -1,24 +1,23 @@
 -- Filling the front: walks that are alike, sorted by their edges.
-use Rattle.std.proofs.Common.{◌≡◌, ℕ, suc, ◌+◌, ◌<◌, false, List, [], ◌∷◌, ◌++◌, map, length, slice_index_or, inl, inr, refl, sym, ap, subst, ◌∙◌, arith, append_assoc, Ordering, Less, Equal, Greater}
+use Rattle.std.proofs.Common.{◌≡◌, ℕ, suc, ◌+◌, ◌<◌, false, List, [], ◌∷◌, ◌++◌, map, length, slice_index_or, inl, inr, refl, sym, ap, subst, ◌∙◌, arith, Ordering, Less, Equal, Greater}
 use Rattle.std.specs.Cmp.{IsTotalOrder, nat_cmp_total, on_total, then_total, back_total}
 use Rattle.std.specs.Cmp.Lexicographic.{slice_cmp, nat_list_cmp_total}
-use Rattle.std.specs.List.{AllByRecursion}
 use Rattle.std.specs.List.Sorted.{IsPermutation, IsSorted}
 use Rattle.std.specs.Ordering.{MatchOrdering, nat_cmp, is_lt, ordering_then}
 use Rattle.std.proofs.lemmas.Cmp.{ranked}
 use Rattle.std.proofs.lemmas.List.{length-map}
-use Rattle.std.proofs.lemmas.List.Sorted.{IsPermutation-sym, IsPermutation-trans, IsPermutation-append_left, IsPermutation-append_right, length_permutation}
+use Rattle.std.proofs.lemmas.List.Sorted.{IsPermutation-sym, IsPermutation-trans, IsPermutation-append_left, length_permutation}
 use Rattle.gc_base.specs.declared.walk.Step.{Step}
 use Rattle.gc_prod.specs.Products.{Setting}
-use Rattle.gc_search.specs.Arrivals.{FoundWalk, entry_of}
-use Rattle.gc_search.specs.Entries.{Entry, LexLess, Lower, Strictly, Same, AtMostAt, Sooner, Nearer, Here}
+use Rattle.gc_search.specs.Arrivals.{FoundWalk, entry_of, NoLater}
+use Rattle.gc_search.specs.Entries.{Entry, LexLess, Lower, Cheaper, Shorter, AtMost, Strictly, Same}
 use Rattle.gc_search.specs.Links.{Link, Walks, IsTold}
 use Rattle.gc_search.specs.Passages.{Has}
 use Rattle.gc_search.specs.Tails.{edges_told, edges_order}
-use Rattle.gc_search.specs.Waiting.{Queue, links_of, told_by, NoLater, Falls, IsAlike, IsSooner, IsQueue, AreFirst, IsFilled}
+use Rattle.gc_search.specs.Waiting.{Queue, links_of, told_by, Falls, IsAlike, IsSooner, IsQueue, AreFirst, IsFilled}
+use Rattle.gc_search.proofs.Bridge.{has_permuted}
 use Rattle.gc_search.proofs.Flat.{Has_later, Has_from_map}
-use Rattle.gc_search.proofs.HeapLaws.{has_permuted, none_there, alike_back, alike_trans, alike_sooner}
-use Rattle.gc_search.proofs.LoopLaws.{lex_ranked, all_has, all_of_has}
+use Rattle.gc_search.proofs.LoopLaws.{lex_ranked, all_has, all_of_has, none_there}
 use Rattle.gc_search.proofs.Order.{entry_eq}
 use Rattle.gc_search.proofs.Settle.{Has_front}
 use Rattle.gc_search.proofs.WaitingLaws.{queue, no_later_trans}
@@ -31,16 +30,16 @@ pub front_order_total : (setting : Setting) (walks : List FoundWalk) → IsTotal
 front_order_total setting walks =
     back_total (then_total (on_total (λ (l : Link). length (edges_told setting walks l)) nat_cmp_total) (on_total (λ (l : Link). edges_told setting walks l) nat_list_cmp_total))
 
--- walks with equally many edges at one cost and node
-level_least : (r s : ℕ) (a b : Entry) (n o : Ordering) → r ≡ s → a.cost ≡ b.cost → length a.edges ≡ length b.edges
+-- walks with equally many edges at one cost
+level_least : (a b : Entry) (n o : Ordering) → a.cost ≡ b.cost → length a.edges ≡ length b.edges
     → MatchOrdering n (length b.edges < length a.edges) (length b.edges ≡ length a.edges) (length a.edges < length b.edges)
     → MatchOrdering o (LexLess b.edges a.edges) (b.edges ≡ a.edges) (LexLess a.edges b.edges)
-    → is_lt (ordering_then n o) ≡ false → AtMostAt r a s b
-level_least r s a b Less o at cost same m l h = absurd (omega (arith, m, same))
-level_least r s a b Greater o at cost same m l h = absurd (omega (arith, m, same))
-level_least r s a b Equal Less at cost same m l h = cc
-level_least r s a b Equal Equal at cost same m l h = Here at (Same (entry_eq a b cost (sym l)))
-level_least r s a b Equal Greater at cost same m l h = Here at (Strictly (Lower cost same l))
+    → is_lt (ordering_then n o) ≡ false → AtMost a b
+level_least a b Less o cost same m l h = absurd (omega (arith, m, same))
+level_least a b Greater o cost same m l h = absurd (omega (arith, m, same))
+level_least a b Equal Less cost same m l h = cc
+level_least a b Equal Equal cost same m l h = Same (entry_eq a b cost (sym l))
+level_least a b Equal Greater cost same m l h = Strictly (Lower cost same l)
 
 module _ (tree : Walks) where
   abbrev walk : Link → FoundWalk
@@ -56,13 +55,12 @@ module _ (tree : Walks) where
       → is_lt (edges_order tree.setting tree.walks b a) ≡ false → NoLater (walk a) (walk b)
   level_no_later a b s t e h =
       let same : length (edges_of a) ≡ length (edges_of b) = sym (count_is a s) ∙ (e.1 ∙ count_is b t) in
-      level_least a.at.node b.at.node (entry_of (walk a)) (entry_of (walk b)) (nat_cmp (length (edges_of b)) (length (edges_of a))) (slice_cmp nat_cmp (edges_of b) (edges_of a))
-      e.2 e.0 same (ranked (length (edges_of b)) (length (edges_of a)) (nat_cmp (length (edges_of b)) (length (edges_of a))) refl) (lex_ranked (edges_of b) (edges_of a) (sym same)) h
+      level_least (entry_of (walk a)) (entry_of (walk b)) (nat_cmp (length (edges_of b)) (length (edges_of a))) (slice_cmp nat_cmp (edges_of b) (edges_of a))
+      e.0 same (ranked (length (edges_of b)) (length (edges_of a)) (nat_cmp (length (edges_of b)) (length (edges_of a))) refl) (lex_ranked (edges_of b) (edges_of a) (sym same)) h
 
   sooner_no_later : (a b : Link) → IsTold tree.setting tree.walks a → IsTold tree.setting tree.walks b → IsSooner a b → NoLater (walk a) (walk b)
-  sooner_no_later a b s t (inl l) = Sooner (inl l)
-  sooner_no_later a b s t (inr (c, inl l)) = Sooner (inr (c, omega (arith, l, count_is a s, count_is b t)))
-  sooner_no_later a b s t (inr (c, inr d)) = Nearer (c, sym (count_is a s) ∙ (d.0 ∙ count_is b t)) d.1
+  sooner_no_later a b s t (inl l) = Strictly (Cheaper l)
+  sooner_no_later a b s t (inr (c, l)) = Strictly (Shorter c (omega (arith, l, count_is a s, count_is b t)))
 
   falls_sorted : (others : List FoundWalk) (front : List Link) → ((x : Link) → Has front x → IsTold tree.setting tree.walks x)
       → ((x y : Link) → Has front x → Has front y → IsAlike x y) → ((x : Link) (y : FoundWalk) → Has front x → Has others y → NoLater (walk x) y)
@@ -111,22 +109,3 @@ module _ (tree : Walks) where
     where
       no_front : front ≡ [] → middle.front ≡ []
       no_front none = none_there middle.front (omega (arith, length_permutation middle.front front p, ap length none))
-
--- the first of a heap is put in front, and then one more that is alike
-pub started : (front later after pushed : List Link) (first : Link) → front ≡ [] → IsPermutation later (first ∷ after) → pushed ≡ front ++ first ∷ [] → IsPermutation (front ++ later) (pushed ++ after)
-started front later after pushed first none p is =
-    let all : pushed ≡ first ∷ [] = is ∙ ap (λ l. l ++ first ∷ []) none in
-    subst (λ v. IsPermutation (v ++ later) (pushed ++ after)) (sym none) (subst (λ v. IsPermutation later (v ++ after)) (sym all) p)
-
-pub moved_one : (start front later front' later' front'' : List Link) (next : Link) → front' ≡ front → IsPermutation later (next ∷ later') → front'' ≡ front' ++ next ∷ [] → IsPermutation start (front ++ later)
-    → IsPermutation start (front'' ++ later')
-moved_one start front later front' later' front'' next same p is from =
-    let all : front'' ++ later' ≡ front ++ next ∷ later' = ap (λ v. v ++ later') (is ∙ ap (λ v. v ++ next ∷ []) same) ∙ append_assoc front (next ∷ []) later' in
-    subst (IsPermutation start) (sym all) (IsPermutation-trans start (front ++ later) (front ++ next ∷ later') from (IsPermutation-append_right front later (next ∷ later') p))
-
-pub are_first : (a : Link) (q : Queue) → AllByRecursion (IsAlike a) q.front → AllByRecursion (IsSooner a) q.later → (q.front ≡ [] → ⊥) → AreFirst q
-are_first a q alike sooner some = record {
-  alike = λ x y h g. alike_trans x a y (alike_back a x (all_has (IsAlike a) q.front x alike h)) (all_has (IsAlike a) q.front y alike g);
-  sooner = λ x y h g. alike_sooner x a y (alike_back a x (all_has (IsAlike a) q.front x alike h)) (all_has (IsSooner a) q.later y sooner g);
-  some = λ none. absurd (some none);
-}

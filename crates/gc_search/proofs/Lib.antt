@@ -5,11 +5,12 @@ pub mod First
 pub mod FirstLaws
 pub mod Flat
 pub mod FrontLaws
-pub mod HeapLaws
+pub mod GroupLaws
 pub mod LoopLaws
 pub mod NumberLaws
 pub mod Order
 pub mod PlaceLaws
+pub mod RankLaws
 pub mod ReadyLaws
 pub mod Settle
 pub mod TailLaws

@@ -82,3 +82,7 @@ all_rest P cs rest c t all = all_of_has P rest (λ x h. all_has P cs x all (t.fr
 
 pub costs_more : (m n : ℕ) (xs : List FoundWalk) → m ≤ n → AllByRecursion (λ a. a.cost ≤ m) xs → AllByRecursion (λ a. a.cost ≤ n) xs
 costs_more m n xs le all = AllByRecursion-weaker (λ (a : FoundWalk). a.cost ≤ m) (λ (a : FoundWalk). a.cost ≤ n) (λ a h. omega (arith, h, le)) xs all
+
+pub none_there : {X : Type 0} (xs : List X) → length xs ≡ 0 → xs ≡ []
+none_there [] n = refl
+none_there (x ∷ xs) n = absurd (omega (arith, n))

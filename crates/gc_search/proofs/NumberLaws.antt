@@ -15,9 +15,8 @@ use Rattle.gc_prod.specs.Products.{Setting, Bundle, bundles, moved, moves, moves
 use Rattle.gc_prod.proofs.LeadLaws.{move_there}
 use Rattle.gc_search.specs.Arrivals.{FoundWalk, arrivals_at, extended, extensions, open_moves, TakesLeast}
 use Rattle.gc_search.specs.Places.{place_in, number_of, IsNumbered}
-use Rattle.gc_search.proofs.Bridge.{contains_of}
+use Rattle.gc_search.proofs.Bridge.{contains_of, has_permuted}
 use Rattle.gc_search.proofs.Flat.{Has_from_map, Has_filtered}
-use Rattle.gc_search.proofs.HeapLaws.{has_permuted}
 use Rattle.gc_search.proofs.LoopLaws.{all_has, all_of_has, all_rest}
 use Rattle.gc_search.proofs.PlaceLaws.{number_is}
 

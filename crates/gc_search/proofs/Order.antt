@@ -1,7 +1,7 @@
 -- The order of entries, and what an extension keeps.
 use Rattle.std.proofs.Common.{◌≡◌, ℕ, ◌+◌, ◌<◌, ◌≤◌, List, [], ◌∷◌, ◌++◌, length, refl, sym, ap, ◌∙◌, subst, arith, inl, inr, ◌⊎◌, length-append}
 use Rattle.std.proofs.lemmas.List.{append-nil}
-use Rattle.gc_search.specs.Entries.{Entry, entry, LexLess, Before, Cheaper, Shorter, Lower, AtMost, Strictly, Same, KeyLess, SameKey, AtMostAt, Sooner, Nearer, Here, extend, IsMoveCost}
+use Rattle.gc_search.specs.Entries.{Entry, entry, LexLess, Before, Cheaper, Shorter, Lower, AtMost, Strictly, Same, extend, IsMoveCost}
 
 pub lex_append : (xs ys zs : List ℕ) → LexLess xs ys → LexLess (xs ++ zs) (ys ++ zs)
 lex_append [] ys zs h = elim h [ ]
@@ -83,55 +83,6 @@ at_most_extend a c w (inr z) =
     let n : a.cost ≡ a.cost + c = omega (arith, z.0) in
     let e : a.edges ≡ a.edges ++ w = sym (ap (λ v. a.edges ++ v) z.1 ∙ append-nil a.edges) in
     Same (entry_eq a (extend a c w) n e)
-
--- the order by cost and number of edges alone
-key_of : (a b : Entry) → AtMost a b → KeyLess a b ⊎ SameKey a b
-key_of a b (Strictly (Cheaper l)) = inl (inl l)
-key_of a b (Strictly (Shorter e l)) = inl (inr (e, l))
-key_of a b (Strictly (Lower e n l)) = inr (e, n)
-key_of a b (Same e) = inr (ap (λ (x : Entry). x.cost) e, ap (λ (x : Entry). length x.edges) e)
-
-key_trans : (a b c : Entry) → KeyLess a b → KeyLess b c → KeyLess a c
-key_trans a b c (inl l) (inl m) = inl (omega (arith, l, m))
-key_trans a b c (inl l) (inr m) = let e = m.0 in inl (omega (arith, l, e))
-key_trans a b c (inr l) (inl m) = let e = l.0 in inl (omega (arith, e, m))
-key_trans a b c (inr l) (inr m) = let x = l.1 in let y = m.1 in inr (l.0 ∙ m.0, omega (arith, x, y))
-
-key_same : (a b c : Entry) → KeyLess a b → SameKey b c → KeyLess a c
-key_same a b c (inl l) s = let e = s.0 in inl (omega (arith, l, e))
-key_same a b c (inr l) s = let x = l.1 in let y = s.1 in inr (l.0 ∙ s.0, omega (arith, x, y))
-
-same_key : (a b c : Entry) → SameKey a b → KeyLess b c → KeyLess a c
-same_key a b c s (inl l) = let e = s.0 in inl (omega (arith, l, e))
-same_key a b c s (inr l) = let x = s.1 in let y = l.1 in inr (s.0 ∙ l.0, omega (arith, x, y))
-
-pub at_most_at_trans : (r s t : ℕ) (a b c : Entry) → AtMostAt r a s b → AtMostAt s b t c → AtMostAt r a t c
-at_most_at_trans r s t a b c (Sooner k) (Sooner l) = Sooner (key_trans a b c k l)
-at_most_at_trans r s t a b c (Sooner k) (Nearer l n) = Sooner (key_same a b c k l)
-at_most_at_trans r s t a b c (Sooner k) (Here e m) = elim (key_of b c m) [ inl l ↦ Sooner (key_trans a b c k l) | inr l ↦ Sooner (key_same a b c k l) ]
-at_most_at_trans r s t a b c (Nearer k n) (Sooner l) = Sooner (same_key a b c k l)
-at_most_at_trans r s t a b c (Nearer k n) (Nearer l m) = Nearer (k.0 ∙ l.0, k.1 ∙ l.1) (omega (arith, n, m))
-at_most_at_trans r s t a b c (Nearer k n) (Here e m) = elim (key_of b c m) [
-  | inl l ↦ Sooner (same_key a b c k l)
-  | inr l ↦ Nearer (k.0 ∙ l.0, k.1 ∙ l.1) (omega (arith, n, e))
-]
-at_most_at_trans r s t a b c (Here e m) (Sooner l) = elim (key_of a b m) [ inl k ↦ Sooner (key_trans a b c k l) | inr k ↦ Sooner (same_key a b c k l) ]
-at_most_at_trans r s t a b c (Here e m) (Nearer l n) = elim (key_of a b m) [
-  | inl k ↦ Sooner (key_same a b c k l)
-  | inr k ↦ Nearer (k.0 ∙ l.0, k.1 ∙ l.1) (omega (arith, e, n))
-]
-at_most_at_trans r s t a b c (Here e m) (Here f n) = Here (e ∙ f) (at_most_trans a b c m n)
-
--- at one place it is the order of entries
-pub at_most_here : (r : ℕ) (a b : Entry) → AtMostAt r a r b → AtMost a b
-at_most_here r a b (Sooner (inl l)) = Strictly (Cheaper l)
-at_most_here r a b (Sooner (inr l)) = Strictly (Shorter l.0 l.1)
-at_most_here r a b (Nearer k n) = absurd (omega (arith, n))
-at_most_here r a b (Here e m) = m
-
-pub at_most_at_extend : (r s : ℕ) (a : Entry) (c : ℕ) (w : List ℕ) → IsMoveCost c w → (c ≡ 0 → r ≡ s) → AtMostAt r a s (extend a c w)
-at_most_at_extend r s a c w (inl l) still = Sooner (inl (omega (arith, l)))
-at_most_at_extend r s a c w (inr z) still = Here (still z.0) (at_most_extend a c w (inr z))
 
 -- of two entries one is before the other, or they are one
 pub data Three (a b : Entry) : Type 0 where

@@ -8,13 +8,13 @@ use Rattle.gc_spec.specs.PropertyGraph.{is_among}
 use Rattle.gc_automata.specs.Moves.{IsThere}
 use Rattle.gc_prod.specs.declared.moves.Pair.{Pair}
 use Rattle.gc_prod.specs.Products.{Setting, moves}
-use Rattle.gc_search.specs.Arrivals.{FoundWalk, stays_at, passages, extensions, open_moves, IsLowAt, IsNew, IsOld}
+use Rattle.gc_search.specs.Arrivals.{FoundWalk, stays_at, passages, extensions, open_moves, IsLowAt, IsNew, IsOld, NoLater}
 use Rattle.gc_search.specs.Links.{Link, Walks, starts_at, IsTold}
 use Rattle.gc_search.specs.Passages.{Has, Passage, IsOnward}
 use Rattle.gc_search.specs.Places.{Listing, IsFresh, IsNumbered, tree_of}
-use Rattle.gc_search.specs.Waiting.{Queue, links_of, told_by, walks_by, waiting, AllTold, NoLater, Falls, IsQueue, IsLed, IsFirstTaken, IsFilled, IsBehind, IsGrown}
-use Rattle.gc_search.proofs.Flat.{node_of, Has_later}
-use Rattle.gc_search.proofs.HeapLaws.{has_permuted}
+use Rattle.gc_search.specs.Waiting.{Queue, links_of, told_by, walks_by, waiting, AllTold, Falls, IsQueue, IsLed, IsFirstTaken, IsFilled, IsBehind, IsGrown}
+use Rattle.gc_search.proofs.Bridge.{has_permuted}
+use Rattle.gc_search.proofs.Flat.{Has_later}
 use Rattle.gc_search.proofs.LoopLaws.{all_has, all_of_has}
 use Rattle.gc_search.proofs.NumberLaws.{LeadNumbered, AreNumbered, leads_numbered, taken_numbered, rest_numbered, more_numbered}
 use Rattle.gc_search.proofs.Settle.{Has_front}
@@ -111,7 +111,7 @@ module _ (source k : ℕ) (l : Listing) (q r : Queue) (t : Link) (ready : IsRead
   grown = grown_by l walk
 
   -- the walk that was taken is settled, and its extensions are pending
-  module _ (costs : (p : Pair) (m : Passage Pair) → Has (passages l.setting p) m → IsOnward node_of p m) (new : IsNew l.walks k walk) (few : length l.walks < 2 ^ 63) (more : List Link)
+  module _ (costs : (p : Pair) (m : Passage Pair) → Has (passages l.setting p) m → IsOnward m) (new : IsNew l.walks k walk) (few : length l.walks < 2 ^ 63) (more : List Link)
       (grows : IsGrown (tree_of grown) k walk (moves l.setting walk.at.node walk.at.state) [] more) where
     abbrev next : List FoundWalk
     next = extensions l.setting walk (open_moves grown.walks k (moves l.setting walk.at.node walk.at.state))

@@ -1,9 +1,9 @@
 -- The settling loop: settled lists at each pair, and what is pending; the invariant, its three steps and its end.
 use Rattle.std.proofs.Common.{◌≡◌, ℕ, ◌+◌, ◌<◌, ◌≤◌, List, [], ◌∷◌, ◌++◌, length, refl, sym, ap, ◌∙◌, subst, arith, inl, inr, ◌⊎◌, length-append}
-use Rattle.gc_search.specs.Entries.{Entry, entry, Before, AtMost, AtMostAt, Here, Strictly, Same, extend}
+use Rattle.gc_search.specs.Entries.{Entry, entry, Before, AtMost, Strictly, Same, extend}
 use Rattle.gc_search.specs.Passages.{Has, Passage, IsOnward, IsCounted, Goes, Reach, IsFirstK, Rises, Covered, Listed, Past}
 use Rattle.gc_search.proofs.First.{Distinct, covered_up, covered_step, first_of, first_k}
-use Rattle.gc_search.proofs.Order.{before_at_most, before_same_walk, before_extend, same_walk_at_most, at_most_same_walk, at_most_apart, at_most_here, at_most_at_trans, at_most_at_extend}
+use Rattle.gc_search.proofs.Order.{before_at_most, before_same_walk, before_extend, same_walk_at_most, at_most_same_walk, at_most_apart, at_most_trans, at_most_extend}
 
 pub Has_front : {X : Type 0} (xs ys : List X) (x : X) → Has xs x → Has (xs ++ ys) x
 Has_front [] ys x h = elim h [ ]
@@ -42,8 +42,7 @@ goes_push passages [] p q e f m g h = (
 )
 goes_push passages (n ∷ run) p q e f m g h = (g.0, goes_push passages run n.to q (extend e n.cost n.edges) f m g.1 h)
 
--- places have numbers, which order what is alike
-module _ (P : Type 0) (passages : P → List (Passage P)) (source : P) (k : ℕ) (number : P → ℕ) where
+module _ (P : Type 0) (passages : P → List (Passage P)) (source : P) (k : ℕ) where
   abbrev pub Table : Type 0
   Table = P → List Entry
 
@@ -60,7 +59,7 @@ module _ (P : Type 0) (passages : P → List (Passage P)) (source : P) (k : ℕ)
     pub few : (p : P) → length (at p) ≤ k
     pub ascends : (p : P) → Rises (at p)
     pub distinct : (p : P) → Distinct (at p)
-    pub ordered : (p q : P) (x e : Entry) → Has (at p) x → pending q e → AtMostAt (number p) x (number q) e
+    pub ordered : (p q : P) (x e : Entry) → Has (at p) x → pending q e → AtMost x e
     pub begun : IsDue at pending source (entry 0 [])
     pub closed : (p : P) (x : Entry) → Has (at p) x → (m : Passage P) → Has (passages p) m → IsDue at pending m.to (extend x m.cost m.edges)
 
@@ -88,7 +87,7 @@ module _ (P : Type 0) (passages : P → List (Passage P)) (source : P) (k : ℕ)
   -- a pending entry whose walk is settled there
   pub seen_covered : (at : P → List Entry) (pending : P → Entry → Type 0) → Inv at pending → (q : P) (e : Entry) → pending q e
       → (x : Entry) → Has (at q) x → x.edges ≡ e.edges → Covered k (at q) e
-  seen_covered at pending inv q e h x g s = Listed x g s (at_most_same_walk x e (at_most_here (number q) x e (inv.ordered q q x e g h)) s)
+  seen_covered at pending inv q e h x g s = Listed x g s (at_most_same_walk x e (inv.ordered q q x e g h) s)
 
   -- what comes behind k others, or is one of them
   full_or : (xs : List Entry) (e : Entry) → ((x : Entry) → Has xs x → AtMost x e) → ((x : Entry) → Has xs x → Before x e) ⊎ ((x : Entry) × Has xs x × (x ≡ e))
@@ -152,7 +151,7 @@ module _ (P : Type 0) (passages : P → List (Passage P)) (source : P) (k : ℕ)
   -- a least pending entry is settled at its pair, and the extensions by the pair's passages are pending or covered
   pub record Settles (at at' : P → List Entry) (pending pending' : P → Entry → Type 0) (q : P) (e : Entry) : Type 0 where
     pub taken : pending q e
-    pub least : (p : P) (x : Entry) → pending p x → AtMostAt (number q) e (number p) x
+    pub least : (p : P) (x : Entry) → pending p x → AtMost e x
     pub new : (x : Entry) → Has (at q) x → x.edges ≡ e.edges → ⊥
     pub room : length (at q) < k
     pub pushed : at' q ≡ at q ++ e ∷ []
@@ -161,7 +160,7 @@ module _ (P : Type 0) (passages : P → List (Passage P)) (source : P) (k : ℕ)
     pub from : (p : P) (x : Entry) → pending' p x → pending p x ⊎ ((m : Passage P) × Has (passages q) m × (m.to ≡ p) × (extend e m.cost m.edges ≡ x))
     pub onward : (m : Passage P) → Has (passages q) m → IsDue at' pending' m.to (extend e m.cost m.edges)
 
-  pub inv_settle : ((p : P) (m : Passage P) → Has (passages p) m → IsOnward number p m)
+  pub inv_settle : ((p : P) (m : Passage P) → Has (passages p) m → IsOnward m)
       → (at at' : P → List Entry) (pending pending' : P → Entry → Type 0) (q : P) (e : Entry)
       → Inv at pending → Settles at at' pending pending' q e → Inv at' pending'
   inv_settle costs at at' pending pending' q e inv s =
@@ -194,14 +193,13 @@ module _ (P : Type 0) (passages : P → List (Passage P)) (source : P) (k : ℕ)
         ]
       ] in
       let reach : Reach passages source q e = inv.pending_sound q e s.taken in
-      let before : (x : Entry) → Has (at q) x → Before x e = λ x h. at_most_apart x e (at_most_here (number q) x e (inv.ordered q q x e h s.taken)) (s.new x h) in
+      let before : (x : Entry) → Has (at q) x → Before x e = λ x h. at_most_apart x e (inv.ordered q q x e h s.taken) (s.new x h) in
       -- the least of what was pending is at most what is pending now
-      let bound : (p : P) (x : Entry) → pending' p x → AtMostAt (number q) e (number p) x = λ p x h. elim (s.from p x h) [
+      let bound : (p : P) (x : Entry) → pending' p x → AtMost e x = λ p x h. elim (s.from p x h) [
         | inl g ↦ s.least p x g
         | inr f ↦
             let on = costs q f.0 f.1 in
-            subst (λ v. AtMostAt (number q) e (number v) x) f.2
-            (subst (λ v. AtMostAt (number q) e (number (f.0).to) v) f.3 (at_most_at_extend (number q) (number (f.0).to) e (f.0).cost (f.0).edges on.0 on.1))
+            subst (AtMost e) f.3 (at_most_extend e (f.0).cost (f.0).edges on)
       ] in
       record {
         sound = λ p x h. elim (was p x h) [
@@ -231,8 +229,8 @@ module _ (P : Type 0) (passages : P → List (Passage P)) (source : P) (k : ℕ)
           | inr d ↦ subst Distinct (sym d.1) (distinct_push (at p) e (inv.distinct p) (λ x h. s.new x (subst (λ v. Has (at v) x) (sym d.0) h)))
         ];
         ordered = λ p r x y h g. elim (was p x h) [
-          | inl i ↦ at_most_at_trans (number p) (number q) (number r) x e y (inv.ordered p q x e i s.taken) (bound r y g)
-          | inr t ↦ subst (λ v. AtMostAt (number v) x (number r) y) t.0 (subst (λ v. AtMostAt (number q) v (number r) y) t.1 (bound r y g))
+          | inl i ↦ at_most_trans x e y (inv.ordered p q x e i s.taken) (bound r y g)
+          | inr t ↦ subst (λ v. AtMost v y) t.1 (bound r y g)
         ];
         begun = due source (entry 0 []) inv.begun;
         closed = λ p x h m g. elim (was p x h) [
@@ -256,9 +254,9 @@ rises_last [] y x r (inr h) = elim h [ ]
 rises_last (z ∷ xs) y x r (inl e) = inl (subst (λ v. Before v y) e (r.0 y (Has_back xs y)))
 rises_last (z ∷ xs) y x r (inr h) = rises_last xs y x r.1 h
 
-module _ (P : Type 0) (passages : P → List (Passage P)) (source : P) (k : ℕ) (number : P → ℕ) (each : (p : P) (m : Passage P) → Has (passages p) m → IsCounted m) where
+module _ (P : Type 0) (passages : P → List (Passage P)) (source : P) (k : ℕ) (each : (p : P) (m : Passage P) → Has (passages p) m → IsCounted m) where
   -- of walks whose edges tell their costs, one that is pending can have the edges of the last alone
-  pub last_alone : (at : P → List Entry) (pending : P → Entry → Type 0) → Inv P passages source k number at pending → (q : P) (e : Entry) → pending q e
+  pub last_alone : (at : P → List Entry) (pending : P → Entry → Type 0) → Inv P passages source k at pending → (q : P) (e : Entry) → pending q e
       → (xs : List Entry) (y : Entry) → at q ≡ xs ++ y ∷ [] → (y.edges ≡ e.edges → ⊥) → (x : Entry) → Has (at q) x → x.edges ≡ e.edges → ⊥
   last_alone at pending inv q e h xs y is other x g same =
       let mine = inv.sound q x g in
@@ -269,23 +267,23 @@ module _ (P : Type 0) (passages : P → List (Passage P)) (source : P) (k : ℕ)
       let last : Has (at q) y = subst (λ v. Has v y) (sym is) (Has_back xs y) in
       elim (rises_last xs y x (subst Rises is (inv.ascends q)) (subst (λ v. Has v x) is g)) [
         | inl before ↦
-            let between : AtMost y e = at_most_here (number q) y e (inv.ordered q q y e last h) in
+            let between : AtMost y e = inv.ordered q q y e last h in
             let less = before_same_walk x e (before_at_most x y e before between) same in
             omega (arith, less, cost)
         | inr d ↦ other (ap (λ (v : Entry). v.edges) d ∙ same)
       ]
 
 -- the end at one place: what leads on from what is settled is covered, or something that is pending comes no later
-module _ (P : Type 0) (passages : P → List (Passage P)) (source : P) (k : ℕ) (number : P → ℕ) (costs : (p : P) (m : Passage P) → Has (passages p) m → IsOnward number p m)
-    (at : P → List Entry) (pending : P → Entry → Type 0) (inv : Inv P passages source k number at pending) where
+module _ (P : Type 0) (passages : P → List (Passage P)) (source : P) (k : ℕ) (costs : (p : P) (m : Passage P) → Has (passages p) m → IsOnward m)
+    (at : P → List Entry) (pending : P → Entry → Type 0) (inv : Inv P passages source k at pending) where
   abbrev Earlier : P → Entry → Type 0
-  Earlier p e = (r : P) × (x : Entry) × pending r x × AtMostAt (number r) x (number p) e
+  Earlier p e = (r : P) × (x : Entry) × pending r x × AtMost x e
 
   abbrev IsMet : P → Entry → Type 0
   IsMet p e = Covered k (at p) e ⊎ Earlier p e
 
   -- of extensions all are covered, or one is pending
-  all_or : (m : Passage P) (xs : List Entry) → ((x : Entry) → Has xs x → IsDue P passages source k number at pending m.to (extend x m.cost m.edges))
+  all_or : (m : Passage P) (xs : List Entry) → ((x : Entry) → Has xs x → IsDue P passages source k at pending m.to (extend x m.cost m.edges))
       → ((x : Entry) → Has xs x → Covered k (at m.to) (extend x m.cost m.edges)) ⊎ ((x : Entry) × Has xs x × pending m.to (extend x m.cost m.edges))
   all_or m [] due = inl (λ x h. elim h [ ])
   all_or m (y ∷ xs) due = elim (due y (inl refl)) [
@@ -303,7 +301,7 @@ module _ (P : Type 0) (passages : P → List (Passage P)) (source : P) (k : ℕ)
         early.0,
         early.1,
         early.2,
-        at_most_at_trans (number early.0) (number p) (number m.to) early.1 e (extend e m.cost m.edges) early.3 (at_most_at_extend (number p) (number m.to) e m.cost m.edges on.0 on.1),
+        at_most_trans early.1 e (extend e m.cost m.edges) early.3 (at_most_extend e m.cost m.edges on),
       )
   met_step p e m h (inl (Listed x g d n)) =
       let same : x.edges ++ m.edges ≡ e.edges ++ m.edges = ap (λ v. v ++ m.edges) d in
@@ -311,7 +309,7 @@ module _ (P : Type 0) (passages : P → List (Passage P)) (source : P) (k : ℕ)
       let most = same_walk_at_most (extend x m.cost m.edges) (extend e m.cost m.edges) same le in
       elim (inv.closed p x g m h) [
         | inl c ↦ inl (covered_up k (at m.to) (extend x m.cost m.edges) (extend e m.cost m.edges) most same c)
-        | inr i ↦ inr (m.to, extend x m.cost m.edges, i, Here refl most)
+        | inr i ↦ inr (m.to, extend x m.cost m.edges, i, most)
       ]
   met_step p e m h (inl (Past n before)) = elim (all_or m (at p) (λ x g. inv.closed p x g m h)) [
     | inl all ↦ inl (covered_step k m.cost m.edges (at p) (at m.to) e (inv.distinct p) (inv.few m.to) all (Past n before))
@@ -319,7 +317,7 @@ module _ (P : Type 0) (passages : P → List (Passage P)) (source : P) (k : ℕ)
       m.to,
       extend one.0 m.cost m.edges,
       one.2,
-      Here refl (Strictly (before_extend one.0 e m.cost m.edges (before one.0 one.1))),
+      Strictly (before_extend one.0 e m.cost m.edges (before one.0 one.1)),
     )
   ]
 
@@ -328,7 +326,7 @@ module _ (P : Type 0) (passages : P → List (Passage P)) (source : P) (k : ℕ)
   met_run (m ∷ run) p q e f met g = met_run run m.to q (extend e m.cost m.edges) f (met_step p e m g.0 met) g.1
 
   met_start : IsMet source (entry 0 [])
-  met_start = elim inv.begun [ inl c ↦ inl c | inr h ↦ inr (source, entry 0 [], h, Here refl (Same refl)) ]
+  met_start = elim inv.begun [ inl c ↦ inl c | inr h ↦ inr (source, entry 0 [], h, Same refl) ]
 
   -- a place that is full has the first k
   pub inv_full : (q : P) → k ≤ length (at q) → IsFirstK k (Reach passages source q) (at q)
@@ -336,6 +334,6 @@ module _ (P : Type 0) (passages : P → List (Passage P)) (source : P) (k : ℕ)
       first_of k (Reach passages source q) (at q) (inv.distinct q) (inv.few q) (inv.ascends q) (inv.sound q)
       (λ e r. elim (met_run r.0 source q (entry 0 []) e met_start r.1) [
         | inl c ↦ c
-        | inr early ↦ full_covered P passages source k number (at q) e
-            (λ y g. at_most_here (number q) y e (at_most_at_trans (number q) (number early.0) (number q) y early.1 e (inv.ordered q early.0 y early.1 g early.2) early.3)) full
+        | inr early ↦ full_covered P passages source k (at q) e
+            (λ y g. at_most_trans y early.1 e (inv.ordered q early.0 y early.1 g early.2) early.3) full
       ])

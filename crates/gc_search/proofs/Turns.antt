@@ -11,9 +11,9 @@ use Rattle.gc_prod.specs.Products.{Setting, moves}
 use Rattle.gc_search.specs.Arrivals.{FoundWalk, entry_of, arrivals_at, settled_at, passages, stays_at, extended, extensions, open_moves, TakesLeast, IsNew, IsOld, IsSeen, IsUnknown, IsAsked, IsDone}
 use Rattle.gc_search.specs.Finding.{IsFollowed}
 use Rattle.gc_search.specs.Passages.{Has, Passage, IsOnward, IsCounted, Reach, IsFirstK}
-use Rattle.gc_search.proofs.Bridge.{contains_of, follows_push}
-use Rattle.gc_search.proofs.Flat.{node_of, IsPending, State, state_start, state_end, state_same, state_seen, state_full, state_full_at, state_settle, Has_from_map, Has_filtered}
-use Rattle.gc_search.proofs.HeapLaws.{has_permuted}
+use Rattle.gc_search.specs.Ranks.{AreNoLater}
+use Rattle.gc_search.proofs.Bridge.{contains_of, follows_push, has_permuted}
+use Rattle.gc_search.proofs.Flat.{IsPending, State, state_start, state_end, state_same, state_seen, state_full, state_full_at, state_settle, settled_has, Has_from_map, Has_filtered}
 use Rattle.gc_search.proofs.Settle.{last_alone}
 use Rattle.gc_search.proofs.LoopLaws.{all_has, all_of_has, all_rest, costs_more}
 
@@ -50,7 +50,7 @@ module _ (setting : Setting) (source k : ℕ) where
   pub turn_end : (settled pending : List FoundWalk) → IsOn settled pending → pending ≡ [] → (q : Pair) → IsFirstK k (Reach (passages setting) (pair source 0) q) (settled_at settled q)
   turn_end settled pending on none = state_end setting source k settled (subst (State setting source k settled) none on.state)
 
-  pub turn_done : ((q : Pair) (m : Passage Pair) → Has (passages setting q) m → IsOnward node_of q m) → (target : Option Pair) (settled pending : List FoundWalk) → IsOn settled pending
+  pub turn_done : ((q : Pair) (m : Passage Pair) → Has (passages setting q) m → IsOnward m) → (target : Option Pair) (settled pending : List FoundWalk) → IsOn settled pending
       → IsDone target settled k → (q : Pair) → IsAsked target q → IsFirstK k (Reach (passages setting) (pair source 0) q) (settled_at settled q)
   turn_done costs None settled pending on done q asked = elim done [ ]
   turn_done costs (Some target) settled pending on done q asked =
@@ -71,6 +71,10 @@ module _ (setting : Setting) (source k : ℕ) where
   module _ (settled cs rest : List FoundWalk) (c : FoundWalk) (on : IsOn settled cs) (t : TakesLeast cs c rest) where
     pub turn_small : c.cost ≤ length settled * 2 ^ 64
     turn_small = all_has (λ (a : FoundWalk). a.cost ≤ length settled * 2 ^ 64) cs c on.small t.there
+
+    -- those that are settled come no later
+    pub turn_later : AreNoLater settled c
+    turn_later x h = on.state.ordered x.at c.at (entry_of x) (entry_of c) (settled_has settled x h) (c, t.there, refl, refl)
 
     dropped : State setting source k settled rest → IsOn settled rest
     dropped state = record {
@@ -95,10 +99,10 @@ module _ (setting : Setting) (source k : ℕ) where
         by (x ∷ rest) e =
             let l = last_of x rest in
             let is : arrivals_at settled c.at ≡ l.0 ++ l.1 ∷ [] = e ∙ l.2 in
-            last_alone Pair (passages setting) (pair source 0) k node_of (each refl) (settled_at settled) (IsPending cs) on.state c.at (entry_of c) (c, t.there, refl, refl)
+            last_alone Pair (passages setting) (pair source 0) k (each refl) (settled_at settled) (IsPending cs) on.state c.at (entry_of c) (c, t.there, refl, refl)
             (map entry_of l.0) (entry_of l.1) (ap (map entry_of) is ∙ map-append entry_of l.0 (l.1 ∷ [])) (new l.0 l.1 is) seen.0 seen.1 seen.2
 
-    pub turn_settles : ((q : Pair) (m : Passage Pair) → Has (passages setting q) m → IsOnward node_of q m) → IsNew settled k c → length settled < 2 ^ 63
+    pub turn_settles : ((q : Pair) (m : Passage Pair) → Has (passages setting q) m → IsOnward m) → IsNew settled k c → length settled < 2 ^ 63
         → (after : List FoundWalk) → IsPermutation (rest ++ extensions setting c (open_moves (settled ++ c ∷ []) k (moves setting c.at.node c.at.state))) after
         → AllByRecursion (λ a. a.cost ≤ c.cost + 2 ^ 64) (extensions setting c (open_moves (settled ++ c ∷ []) k (moves setting c.at.node c.at.state)))
         → IsOn (settled ++ c ∷ []) after

@@ -8,25 +8,25 @@ use Rattle.gc_prod.specs.declared.moves.Move.{Move}
 use Rattle.gc_prod.specs.declared.moves.Pair.{Pair}
 use Rattle.gc_prod.specs.Leading.{target_of}
 use Rattle.gc_prod.specs.Products.{Setting, moves}
-use Rattle.gc_search.specs.Arrivals.{FoundWalk, entry_of, arrivals_at, passage, passages, extended, extensions, open_moves}
-use Rattle.gc_search.specs.Entries.{Entry, extend, IsMoveCost, Same, Strictly, Cheaper, Shorter, Lower, AtMostAt, Sooner, Nearer, Here}
+use Rattle.gc_search.specs.Arrivals.{FoundWalk, entry_of, arrivals_at, passage, passages, extended, extensions, open_moves, NoLater}
+use Rattle.gc_search.specs.Entries.{Entry, extend, IsMoveCost, Same, Strictly, AtMost, Cheaper, Shorter, Lower}
 use Rattle.gc_search.specs.Links.{Link, Walks, IsTold}
 use Rattle.gc_search.specs.Passages.{Has, Passage, IsOnward}
-use Rattle.gc_search.specs.Waiting.{Queue, links_of, told_by, walks_by, waiting, AllTold, NoLater, Falls, IsQueue, IsLed, IsFirstTaken, IsBehind}
-use Rattle.gc_search.proofs.Flat.{node_of, Has_cases, Has_later, Has_map, Has_from_map, Has_filtered, entry_extended}
-use Rattle.gc_search.proofs.HeapLaws.{has_permuted}
+use Rattle.gc_search.specs.Waiting.{Queue, links_of, told_by, walks_by, waiting, AllTold, Falls, IsQueue, IsLed, IsFirstTaken, IsBehind}
+use Rattle.gc_search.proofs.Bridge.{has_permuted}
+use Rattle.gc_search.proofs.Flat.{Has_cases, Has_later, Has_map, Has_from_map, Has_filtered, entry_extended}
 use Rattle.gc_search.proofs.LoopLaws.{all_has, all_of_has}
-use Rattle.gc_search.proofs.Order.{entry_eq, at_most_at_trans, at_most_at_extend}
+use Rattle.gc_search.proofs.Order.{entry_eq, at_most_trans, at_most_extend}
 use Rattle.gc_search.proofs.Settle.{Has_front, Has_back, Has_pushed}
 
 abbrev pub queue : List Link → List Link → Queue
 queue front later = record { front = front; later = later }
 
 pub no_later_trans : (a b c : FoundWalk) → NoLater a b → NoLater b c → NoLater a c
-no_later_trans a b c h g = at_most_at_trans a.at.node b.at.node c.at.node (entry_of a) (entry_of b) (entry_of c) h g
+no_later_trans a b c h g = at_most_trans (entry_of a) (entry_of b) (entry_of c) h g
 
 pub no_later_itself : (a : FoundWalk) → NoLater a a
-no_later_itself a = Here refl (Same refl)
+no_later_itself a = Same refl
 
 -- the last in front is taken away, or is there
 module _ {X : Type 0} (front later : List X) (x : X) where
@@ -72,13 +72,10 @@ falls_rest others (x ∷ xs) t f = (λ y h. f.0 y (Has_front xs (t ∷ []) y h),
 
 -- a walk that comes no later, but does not cost the same, costs less
 dearer : (a b : FoundWalk) → NoLater a b → (b.cost ≡ a.cost → ⊥) → a.cost < b.cost
-dearer a b (Sooner (inl l)) other = l
-dearer a b (Sooner (inr l)) other = absurd (other (sym l.0))
-dearer a b (Nearer k n) other = absurd (other (sym k.0))
-dearer a b (Here e (Strictly (Cheaper l))) other = l
-dearer a b (Here e (Strictly (Shorter d l))) other = absurd (other (sym d))
-dearer a b (Here e (Strictly (Lower d n l))) other = absurd (other (sym d))
-dearer a b (Here e (Same d)) other = absurd (other (sym (ap (λ (v : Entry). v.cost) d)))
+dearer a b (Strictly (Cheaper l)) other = l
+dearer a b (Strictly (Shorter d l)) other = absurd (other (sym d))
+dearer a b (Strictly (Lower d n l)) other = absurd (other (sym d))
+dearer a b (Same d) other = absurd (other (sym (ap (λ (v : Entry). v.cost) d)))
 
 module _ (tree : Walks) where
   abbrev walk : Link → FoundWalk
@@ -199,7 +196,7 @@ module _ (tree : Walks) where
                   | inr f ↦ falls_each (map walk q.later) (map walk q.front) led.queue.falls x (walk from.0) h (Has_map walk q.later from.0 f)
                   | inl e ↦
                       let same : (front.0).cost ≡ last.cost = led.level front.0 front.1 in
-                      let sooner : NoLater (walk front.0) (walk a) = Sooner (inl (omega (arith, same, less))) in
+                      let sooner : NoLater (walk front.0) (walk a) = Strictly (Cheaper (omega (arith, same, less))) in
                       subst (λ (v : Link). NoLater x (walk v)) e (subst (λ (v : FoundWalk). NoLater v (walk a)) front.2 sooner)
                 ]));
             level = led.queue.level;
@@ -228,7 +225,7 @@ pub record Follows (last a : FoundWalk) : Type 0 where
   pub later : NoLater last a
   pub near : a.cost ≡ last.cost → NoLater a last
 
-module _ (setting : Setting) (costs : (q : Pair) (m : Passage Pair) → Has (passages setting q) m → IsOnward node_of q m) (c : FoundWalk) where
+module _ (setting : Setting) (costs : (q : Pair) (m : Passage Pair) → Has (passages setting q) m → IsOnward m) (c : FoundWalk) where
   follows_one : (m : Move) → Has (moves setting c.at.node c.at.state) m → Follows c (extended setting c m)
   follows_one m h =
       let x = passage setting m in
@@ -236,10 +233,10 @@ module _ (setting : Setting) (costs : (q : Pair) (m : Passage Pair) → Has (pas
       let on = costs c.at x (Has_map (passage setting) (moves setting c.at.node c.at.state) m h) in
       let is : extend (entry_of c) x.cost x.edges ≡ entry_of a = sym (entry_extended setting c m) in
       record {
-        later = subst (λ (e : Entry). AtMostAt c.at.node (entry_of c) a.at.node e) is (at_most_at_extend c.at.node a.at.node (entry_of c) x.cost x.edges on.0 on.1);
+        later = subst (AtMost (entry_of c)) is (at_most_extend (entry_of c) x.cost x.edges on);
         near = λ same.
             let free : x.cost ≡ 0 = omega (arith, same) in
-            Here (sym (on.1 free)) (Same (sym is ∙ free_is (entry_of c) x.cost x.edges on.0 free));
+            Same (sym is ∙ free_is (entry_of c) x.cost x.edges on free);
       }
 
   -- what is told by links that are extensions comes behind

@@ -188,10 +188,6 @@ module _ (network : Network) (segments : AreSegments network.graph network.segme
       let is = among_all (IsSegment network.graph) network.segments (record { view = v; walk = w; cost = c }) segments g in
       inl (omega (arith, is.costs))
 
-no_steps : (steps : List Step) → edges_along steps ≡ [] → steps ≡ []
-no_steps [] e = refl
-no_steps (s ∷ steps) e = cc
-
 module _ (setting : Setting) (segments : AreSegments setting.network.graph setting.network.segments) where
   -- a run passes a walk of the graph
   pub run_walks : (n from to : ℕ) (w : Walk) (c : ℕ) → RunsIn setting.network setting.machine.transitions n from to w c → are_steps_from setting.network.graph.edges w.start w.steps ≡ true
@@ -203,8 +199,8 @@ module _ (setting : Setting) (segments : AreSegments setting.network.graph setti
       subst (λ (v : Walk). are_steps_from edges v.start v.steps ≡ true) (sym run.whole)
       (steps_both edges run.first.start run.first.steps run.second.steps first (subst (λ s. are_steps_from edges s run.second.steps ≡ true) (sym run.meets) second))
 
-  -- a move costs at least 1, or it costs nothing, passes no edge and stays at its node
-  pub passage_onward : (q : Pair) (x : Passage Pair) → Has (passages setting q) x → IsOnward (λ r. r.node) q x
+  -- a move costs at least 1, or it costs nothing and passes no edge
+  pub passage_onward : (q : Pair) (x : Passage Pair) → Has (passages setting q) x → IsOnward x
   passage_onward q x h =
       let from = Has_from_map (passage setting) (moves setting q.node q.state) x h in
       let by = by_move setting q.node q.state from.0 (contains_of (moves setting q.node q.state) from.0 from.1) in
@@ -212,15 +208,7 @@ module _ (setting : Setting) (segments : AreSegments setting.network.graph setti
       let cost : by.hop.cost ≡ x.cost = ap (λ (k : Move). k.cost) by.is ∙ ap (λ (y : Passage Pair). y.cost) from.2 in
       let edges : edges_of first.walk ≡ x.edges = ap edges_along (first.steps ∙ ap (steps_of setting) by.is) ∙ ap (λ (y : Passage Pair). y.edges) from.2 in
       let goes = goes_cost setting.network segments by.transition.on first.walk by.hop.cost first.goes in
-      let starts : first.walk.start ≡ q.node = first.starts ∙ by.starts in
-      let ends : end_of_steps first.walk.start first.walk.steps ≡ x.to.node =
-      first.ends ∙ (ap (λ (k : Move). k.node) by.is ∙ ap (λ (y : Passage Pair). y.to.node) from.2) in (
-        subst (λ (l : List ℕ). IsMoveCost x.cost l) edges (subst (λ n. IsMoveCost n (edges_of first.walk)) cost goes),
-        λ free. elim goes [
-          | inl some ↦ absurd (omega (arith, some, cost, free))
-          | inr none ↦ sym starts ∙ (sym (ap (end_of_steps first.walk.start) (no_steps first.walk.steps none.1)) ∙ ends)
-        ],
-      )
+      subst (λ (l : List ℕ). IsMoveCost x.cost l) edges (subst (λ n. IsMoveCost n (edges_of first.walk)) cost goes)
 
 -- without segments a move costs 1 for each edge
 goes_counted : (network : Network) → network.segments ≡ [] → (label : On) (w : Walk) (c : ℕ) → Goes network label w c → c ≡ length (edges_of w)

@@ -7,7 +7,7 @@ use Rattle.gc_prod.specs.declared.moves.Pair.{Pair}
 use Rattle.gc_prod.specs.declared.moves.RunMove.{RunMove}
 use Rattle.gc_prod.specs.Leading.{pair, target_of, steps_of}
 use Rattle.gc_prod.specs.Products.{Setting, moves}
-use Rattle.gc_search.specs.Entries.{Entry, entry, AtMostAt}
+use Rattle.gc_search.specs.Entries.{Entry, entry, AtMost}
 use Rattle.gc_search.specs.Passages.{Has, Passage}
 
 -- a walk from the source: the pair at which it arrives, its cost and its steps, and the moves of its run
@@ -66,10 +66,14 @@ abbrev pub Told : Bool → Type 0 → Type 0 → Type 0
 Told true A B = A
 Told false A B = B
 
+-- one comes no later than another
+abbrev pub NoLater : FoundWalk → FoundWalk → Type 0
+NoLater a b = AtMost (entry_of a) (entry_of b)
+
 -- a least one is taken out
 pub record TakesLeast (before : List FoundWalk) (taken : FoundWalk) (after : List FoundWalk) : Type 0 where
   pub there : Has before taken
-  pub least : (x : FoundWalk) → Has before x → AtMostAt taken.at.node (entry_of taken) x.at.node (entry_of x)
+  pub least : (x : FoundWalk) → Has before x → NoLater taken x
   pub kept : (x : FoundWalk) → Has before x → Has after x ⊎ (taken ≡ x)
   pub from : (x : FoundWalk) → Has after x → Has before x
   pub shorter : length before ≡ suc (length after)

@@ -25,19 +25,6 @@ pub data AtMost (a b : Entry) : Type 0 where
   Strictly : Before a b → AtMost a b
   Same : a ≡ b → AtMost a b
 
--- an entry is cheaper than another, or has fewer edges at the same cost; or both are alike
-abbrev pub KeyLess : Entry → Entry → Type 0
-KeyLess a b = (a.cost < b.cost) ⊎ ((a.cost ≡ b.cost) × (length a.edges < length b.edges))
-
-abbrev pub SameKey : Entry → Entry → Type 0
-SameKey a b = (a.cost ≡ b.cost) × (length a.edges ≡ length b.edges)
-
--- the order in which entries at places are taken: of those alike, those at lower places come first
-pub data AtMostAt (r : ℕ) (a : Entry) (s : ℕ) (b : Entry) : Type 0 where
-  Sooner : KeyLess a b → AtMostAt r a s b
-  Nearer : SameKey a b → r < s → AtMostAt r a s b
-  Here : r ≡ s → AtMost a b → AtMostAt r a s b
-
 -- a move's cost and edges, put at the end
 abbrev pub extend : Entry → ℕ → List ℕ → Entry
 extend e c w = entry (e.cost + c) (e.edges ++ w)

@@ -3,9 +3,10 @@ pub mod Counting
 pub mod Entries
 pub mod Finding
 pub mod FirstWalks
-pub mod HeapOrder
+pub mod Groups
 pub mod Links
 pub mod Passages
 pub mod Places
+pub mod Ranks
 pub mod Tails
 pub mod Waiting

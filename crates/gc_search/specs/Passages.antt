@@ -13,9 +13,9 @@ pub record Passage (P : Type 0) : Type 0 where
   pub cost : ℕ
   pub edges : List ℕ
 
--- a passage from a place costs at least 1, or it costs nothing, passes no edge and leads to one with the same number
-abbrev pub IsOnward : {P : Type 0} → (P → ℕ) → P → Passage P → Type 0
-IsOnward number p m = IsMoveCost m.cost m.edges × (m.cost ≡ 0 → number p ≡ number m.to)
+-- a passage costs at least 1, or it costs nothing and passes no edge
+abbrev pub IsOnward : {P : Type 0} → Passage P → Type 0
+IsOnward m = IsMoveCost m.cost m.edges
 
 -- it costs 1 for each edge
 abbrev pub IsCounted : {P : Type 0} → Passage P → Type 0

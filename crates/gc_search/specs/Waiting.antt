@@ -1,10 +1,9 @@
--- Walks that are pending: some in front, which come before all others, and the others in a heap.
+-- Walks that are pending: some in front, which come before all others, and the others in groups.
 use Rattle.std.specs.Prelude.{◌≡◌, ◌⊎◌, ℕ, ◌+◌, ◌<◌, ◌≤◌, ◌^◌, List, [], ◌∷◌, ◌++◌, map}
 use Rattle.std.specs.List.{AllByRecursion}
 use Rattle.std.specs.List.Sorted.{IsPermutation}
 use Rattle.gc_prod.specs.declared.moves.Move.{Move}
-use Rattle.gc_search.specs.Arrivals.{FoundWalk, entry_of, extensions, open_moves, TakesLeast}
-use Rattle.gc_search.specs.Entries.{AtMostAt}
+use Rattle.gc_search.specs.Arrivals.{FoundWalk, extensions, open_moves, NoLater, TakesLeast}
 use Rattle.gc_search.specs.Links.{Link, Walks, walk_of, IsTold}
 use Rattle.gc_search.specs.Passages.{Has}
 
@@ -25,25 +24,16 @@ walks_by tree links = map (told_by tree) links
 abbrev pub waiting : Walks → Queue → List FoundWalk
 waiting tree q = walks_by tree (links_of q)
 
--- alike in cost, number of edges and node; or sooner by these
+-- alike in cost and number of edges; or sooner by these
 abbrev pub IsAlike : Link → Link → Type 0
-IsAlike a b = (a.cost ≡ b.cost) × (a.edges ≡ b.edges) × (a.at.node ≡ b.at.node)
+IsAlike a b = (a.cost ≡ b.cost) × (a.edges ≡ b.edges)
 
 abbrev pub IsSooner : Link → Link → Type 0
-IsSooner a b = (a.cost < b.cost) ⊎ ((a.cost ≡ b.cost) × ((a.edges < b.edges) ⊎ ((a.edges ≡ b.edges) × (a.at.node < b.at.node))))
-
--- the first of a heap, if it has one, is alike to a walk
-abbrev pub HasAlike : Link → List Link → Type 0
-HasAlike a [] = Unit {0}
-HasAlike a (x ∷ later) = IsAlike a x
+IsSooner a b = (a.cost < b.cost) ⊎ ((a.cost ≡ b.cost) × (a.edges < b.edges))
 
 -- all are told beside a tree
 abbrev pub AllTold : Walks → List Link → Type 0
 AllTold tree links = AllByRecursion (IsTold tree.setting tree.walks) links
-
--- one is taken no later than another
-abbrev pub NoLater : FoundWalk → FoundWalk → Type 0
-NoLater a b = AtMostAt a.at.node (entry_of a) b.at.node (entry_of b)
 
 -- each comes no later than those before it, and than some others
 abbrev pub Falls : List FoundWalk → List FoundWalk → Type 0

@@ -1,7 +1,9 @@
-ghost use Rattle.std.specs.Prelude.{◌≡◌, ◌<◌, true, Bool};
+ghost use Rattle.std.specs.Prelude.{◌≡◌, ◌<◌, IfSome};
 ghost use Rattle.std.specs.Ordering.{nat_cmp};
 ghost use Rattle.std.specs.Cmp.Lexicographic.{slice_cmp};
 ghost use Rattle.gc_search.specs.Arrivals.{Told};
+ghost use Rattle.gc_search.specs.Links.{walk_of};
+ghost use Rattle.gc_search.specs.Ranks.{IsRepeated};
 ghost use Rattle.gc_search.specs.Tails.{IsLevel, IsMet, compared_order, edges_order, edges_told, tail_edges, way_back};
 
 use crate::link::Link;
@@ -41,6 +43,19 @@ pub(crate) fn have_same_edges(tree: &WalkTree, a: &Link, b: &Link) -> bool
     edges_order(tree, a, b).is_eq()
 }
 
+// Whether a walk has the cost and the edges of the one that was settled last.
+pub(crate) fn repeats_last(tree: &WalkTree, next: &Link) -> bool
+    ensures { Told result (IsRepeated tree.now.walks (walk_of tree.now.setting tree.now.walks next.now))
+        (IsRepeated tree.now.walks (walk_of tree.now.setting tree.now.walks next.now) → ⊥) }
+{
+    let count = tree.count();
+    if count == 0 {
+        return false;
+    }
+    let last = tree.at(count - 1);
+    last.cost == next.cost && have_same_edges(tree, last, next)
+}
+
 // The order of two walks with equally many edges, by these one after another. Of the differences that
 // are met on the way back to what both share, the last one tells.
 fn level_order(tree: &WalkTree, one: Tail, other: Tail) -> Ordering
@@ -53,6 +68,9 @@ fn level_order(tree: &WalkTree, one: Tail, other: Tail) -> Ordering
         passed: Ordering::Equal,
     };
     while !is_met(&compared) {
+        if let Some(order) = ranked_order(tree, &compared) {
+            return order;
+        }
         compared = gone_back(tree, compared);
     }
     compared.passed
@@ -65,6 +83,20 @@ fn is_met(compared: &Compared) -> bool
     compared.one.left == 0
         && compared.other.left == 0
         && compared.one.before == compared.other.before
+}
+
+// The order of two that have been gone back along to settled walks, where the ranks of these tell it.
+fn ranked_order(tree: &WalkTree, c: &Compared) -> Option<Ordering>
+    requires { IsLevel tree.now.setting tree.now.walks c.now.one c.now.other }
+    ensures { IfSome result (λ order. order ≡ compared_order tree.now.setting tree.now.walks c.now) }
+{
+    if c.one.left > 0 || c.other.left > 0 || c.one.before == 0 || c.other.before == 0 {
+        return None;
+    }
+    match tree.ranked(c.one.before, c.other.before) {
+        None => None,
+        Some(order) => Some(order.then(c.passed)),
+    }
 }
 
 // Goes back: along an edge of both moves; or where one of them has none left, to the move before it. Of

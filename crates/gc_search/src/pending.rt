@@ -1,40 +1,36 @@
 ghost use Rattle.std.specs.Prelude.{◌≡◌, ◌++◌, ◌∷◌, [], IfOk, IfSome, IfNone, OnOk};
-ghost use Rattle.std.specs.BinaryHeap.{IsUpperBound};
 ghost use Rattle.std.specs.List.{AllByRecursion};
 ghost use Rattle.std.specs.List.Sorted.{IsPermutation};
-ghost use Rattle.gc_search.specs.Arrivals.{Told};
-ghost use Rattle.gc_search.specs.HeapOrder.{heap_order};
+ghost use Rattle.gc_search.specs.Groups.{all_of, AreGroups};
 ghost use Rattle.gc_search.specs.Links.{Walks};
-ghost use Rattle.gc_search.specs.Waiting.{links_of, AreFirst, HasAlike, IsAlike, IsBehind, IsFilled, IsFirstTaken, IsLed, IsQueue, IsSooner};
+ghost use Rattle.gc_search.specs.Waiting.{links_of, IsBehind, IsFilled, IsFirstTaken, IsLed, IsQueue};
 
 use crate::comparing::edges_order;
 use crate::link::Link;
 use crate::tree::WalkTree;
 use gc_base::Memory;
 use std::alloc::Global;
-use std::collections::BinaryHeap;
+use std::collections::BTreeMap;
 use std::marker::Model;
 
-// The walks that are pending. Those that are alike in cost, number of edges and node to the one that was
-// taken last stand in front, the least behind the others, and are taken first; the others stand in a
-// heap, which hands out the greatest: the order of walks is turned around for it. The order in which
-// contracts see the heap means nothing.
+// The walks that are pending. Those that are alike in cost and number of edges to the one that was taken
+// last stand in front, the least behind the others, and are taken first. The others wait in groups by their
+// cost and number of edges, which are few: a group is put in order only when it comes to the front.
 #[derive(Drop)]
 pub(crate) struct Pending {
     front: Vec<Link>,
-    heap: BinaryHeap<Link>,
+    groups: BTreeMap<(u128, usize), Vec<Link>>,
 }
 
 impl Model for Pending {
-    ghost use Rattle.std.specs.BinaryHeap.{heap_items, IsHeap};
-    ghost use Rattle.gc_search.specs.HeapOrder.{heap_order};
+    ghost use Rattle.gc_search.specs.Groups.{all_of, AreGroups};
     ghost use Rattle.gc_search.specs.Waiting.{Queue};
 
     ghost Value = { Queue };
 
-    ghost view = { λ p. record { front = p.front.items; later = heap_items p.heap } };
+    ghost view = { λ p. record { front = p.front.items; later = all_of p.groups.entries } };
 
-    ghost invariant = { λ p. IsHeap heap_order (heap_items p.heap) };
+    ghost invariant = { λ p. AreGroups p.groups.entries };
 }
 
 impl Pending {
@@ -46,7 +42,7 @@ impl Pending {
         front.push(first)?;
         Ok(Pending {
             front,
-            heap: BinaryHeap::new(alloc),
+            groups: BTreeMap::new(alloc),
         })
     }
 
@@ -59,68 +55,33 @@ impl Pending {
         self.front.pop()
     }
 
-    // Fills the front where it is empty: with the first of the heap and all that are alike, the least last.
+    // Fills the front where it is empty: with the first group, the least last. Walks are settled in order, so
+    // those that extend them mostly came in order: turned around, a group is made of few runs, which this
+    // sort finds.
     pub(crate) fn fill_front(&mut self, tree: &WalkTree) -> Result<(), Memory>
         requires { IsQueue tree.now self.old }
         ensures { OnOk result (IsFilled tree.now self.old self.new) }
     {
-        if self.front.is_empty() {
-            self.move_alike()?;
-            self.front.sort_unstable_by(|a, b| edges_order(tree, b, a));
+        if !self.front.is_empty() {
+            return Ok(());
         }
-        Ok(())
-    }
-
-    // Moves the first of the heap, and all that are alike, to the front.
-    fn move_alike(&mut self) -> Result<(), Memory>
-        requires { self.old.front ≡ [] }
-        ensures same { OnOk result (IsPermutation (links_of self.old) (links_of self.new)) }
-        ensures first { OnOk result (AreFirst self.new) }
-    {
-        let Some(first) = self.heap.pop() else {
+        let Some((_, mut group)) = self.groups.pop_first() else {
             return Ok(());
         };
-        self.front.push(first)?;
-        while let Some(next) = self.next_alike(&first) {
-            self.front.push(next)?;
-        }
+        group.reverse();
+        group.sort_by(|a, b| edges_order(tree, b, a))?;
+        self.front = group;
         Ok(())
-    }
-
-    // Takes the first of the heap where it is alike to a walk that came no later than all of them.
-    fn next_alike(&mut self, first: &Link) -> Option<Link>
-        requires { IsUpperBound heap_order first.now self.old.later }
-        ensures front { self.new.front ≡ self.old.front }
-        ensures some { IfSome result (λ next. IsAlike first.now next × IsPermutation self.old.later (next ∷ self.new.later)) }
-        ensures none { IfNone result ((self.new.later ≡ self.old.later) × AllByRecursion (IsSooner first.now) self.old.later) }
-    {
-        if self.has_alike(first) {
-            self.heap.pop()
-        } else {
-            None
-        }
-    }
-
-    // Whether the first of the heap is alike to a walk that came no later than all of them.
-    fn has_alike(&self, first: &Link) -> bool
-        requires { IsUpperBound heap_order first.now self.now.later }
-        ensures { Told result (HasAlike first.now self.now.later) (AllByRecursion (IsSooner first.now) self.now.later) }
-    {
-        match self.heap.peek() {
-            None => false,
-            Some(next) => next == first,
-        }
     }
 
     // Adds walks that come behind one that was taken.
-    pub(crate) fn add_all(&mut self, last: &Link, more: &mut Vec<Link>) -> Result<(), Memory>
-        ensures added { OnOk result (IsPermutation (links_of self.old ++ more.old.items) (links_of self.new)) }
-        ensures none { OnOk result (more.new.items ≡ []) }
-        ensures led { OnOk result ((tree : Walks) → IsLed tree last.now self.old → AllByRecursion (IsBehind tree last.now) more.old.items
+    pub(crate) fn add_all(&mut self, last: &Link, more: &[Link]) -> Result<(), Memory>
+        ensures added { OnOk result (IsPermutation (links_of self.old ++ more.now) (links_of self.new)) }
+        ensures led { OnOk result ((tree : Walks) → IsLed tree last.now self.old → AllByRecursion (IsBehind tree last.now) more.now
             → IsLed tree last.now self.new) }
     {
-        while let Some(next) = more.pop() {
-            self.add(last, next)?;
+        for next in more {
+            self.add(last, *next)?;
         }
         Ok(())
     }
@@ -133,8 +94,30 @@ impl Pending {
         if next.cost == last.cost {
             self.front.push(next)?;
         } else {
-            self.heap.push(next)?;
+            put(*self.front.allocator(), &mut self.groups, next)?;
         }
         Ok(())
     }
+}
+
+// Puts a walk into the group of its cost and number of edges.
+fn put(
+    alloc: Global,
+    groups: &mut BTreeMap<(u128, usize), Vec<Link>>,
+    next: Link,
+) -> Result<(), Memory>
+    requires { AreGroups groups.old.entries }
+    ensures groups { AreGroups groups.new.entries }
+    ensures added { OnOk result (IsPermutation (next ∷ all_of groups.old.entries) (all_of groups.new.entries)) }
+{
+    let key = (next.cost, next.edges);
+    match groups.get_mut(&key) {
+        Some(group) => group.push(next)?,
+        None => {
+            let mut group = Vec::new(alloc);
+            group.push(next)?;
+            groups.insert(key, group)?;
+        }
+    }
+    Ok(())
 }

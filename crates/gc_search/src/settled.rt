@@ -5,6 +5,7 @@ ghost use Rattle.gc_base.specs.Ascending.{Ascends};
 ghost use Rattle.gc_search.specs.Arrivals.{arrivals_at, IsNotLast, IsSeen, Told};
 ghost use Rattle.gc_search.specs.Links.{walk_of, IsTold};
 ghost use Rattle.gc_search.specs.Places.{place_in, number_of, places_from, IsFresh, IsNumbered};
+ghost use Rattle.gc_search.specs.Ranks.{AreNoLater};
 
 use crate::comparing::have_same_edges;
 use crate::link::Link;
@@ -101,10 +102,11 @@ impl<'a> Settled<'a> {
         }
     }
 
-    // Settles a walk behind the others. Its pair has a number.
+    // Settles a walk behind the others, which come no later. Its pair has a number.
     pub(crate) fn push(&mut self, next: &Link) -> Result<(), Memory>
         requires number { IsNumbered self.old.nodes self.old.width next.now.at }
         requires told { IsTold self.old.setting self.old.walks next.now }
+        requires later { AreNoLater self.old.walks (walk_of self.old.setting self.old.walks next.now) }
         ensures { OnOk result (self.new ≡ record self.old { walks = self.old.walks ++ walk_of self.old.setting self.old.walks next.now ∷ [] }) }
     {
         let Some(number) = number_of(self.nodes, self.width, &next.at) else {

@@ -138,7 +138,7 @@ pub(crate) fn settle<'a, L: Ledger>(
     steps: &mut Steps<L>,
 ) -> Result<Settled<'a>, Memory>
     requires source { IsThere p.now.network source }
-    requires costs { (q : Pair) (m : Passage Pair) → Has (passages p.now q) m → IsOnward (λ r. r.node) q m }
+    requires costs { (q : Pair) (m : Passage Pair) → Has (passages p.now q) m → IsOnward m }
     requires plain { plain ≡ true → (q : Pair) (m : Passage Pair) → Has (passages p.now q) m → IsCounted m }
     ensures first { IfOk result (λ settled. (q : Pair) → IsAsked target q
         → IsFirstK k (Reach (passages p.now) (pair source 0) q) (settled_at settled.walks q)) }
@@ -159,7 +159,8 @@ pub(crate) fn settle<'a, L: Ledger>(
             let place = settled.tree.count();
             settled.push(&next)?;
             add_all_extended(&settled, place, k, steps, &mut more)?;
-            pending.add_all(&next, &mut more)?;
+            pending.add_all(&next, &more)?;
+            more.clear();
         }
     }
     Ok(settled)

@@ -1,32 +1,40 @@
-ghost use Rattle.std.specs.Prelude.{◌≡◌, ◌⊎◌, ◌+◌, ◌^◌, ◌<◌, ◌≤◌, ◌++◌, ◌∷◌, [], ℕ, List, length, slice_get, Some, IfOk, OnErr, OnOk};
+ghost use Rattle.std.specs.Prelude.{◌≡◌, ◌⊎◌, ◌+◌, ◌^◌, ◌<◌, ◌≤◌, ◌++◌, ◌∷◌, [], ℕ, List, length, slice_get, Some, IfOk, IfSome, OnErr, OnOk};
+ghost use Rattle.std.specs.Ordering.{nat_cmp};
+ghost use Rattle.std.specs.Cmp.Lexicographic.{slice_cmp};
 ghost use Rattle.gc_search.specs.Arrivals.{FoundWalk, extended, IsLowAt, Told};
 ghost use Rattle.gc_search.specs.Links.{numbered, walk_of, IsNumber, IsTold, IsWayOf};
+ghost use Rattle.gc_search.specs.Ranks.{AreNoLater};
 ghost use Rattle.gc_search.specs.Tails.{edges_if, edges_told, tail_edges, IsTail};
 
+use crate::comparing::repeats_last;
 use crate::link::Link;
 use crate::tail::{Tail, edge_count};
 use gc_base::Memory;
 use gc_prod::{Move, Pair, Product};
 use std::alloc::Global;
+use std::cmp::Ordering;
 use std::marker::Model;
 
 // The walks that are settled, in the order in which they were. Each extends an earlier one by a move, and
-// is kept as the number of that one and the move, so walks share their beginnings. Contracts see the
-// product and the walks.
+// is kept as the number of that one and the move, so walks share their beginnings. Each has a rank: where
+// two have one cost and equally many edges, their ranks tell the order of these, so that nothing before
+// them need be looked at. Contracts see the product and the walks.
 #[derive(Drop)]
 pub(crate) struct WalkTree<'a> {
     pub(crate) product: &'a Product<'a>,
     links: Vec<Link>,
+    ranks: Vec<usize>,
 }
 
 impl<'a> Model for WalkTree<'a> {
-    ghost use Rattle.gc_search.specs.Links.{Walks, IsTree, told};
+    ghost use Rattle.gc_search.specs.Links.{Walks, told};
+    ghost use Rattle.gc_search.specs.Ranks.{IsRankedTree};
 
     ghost Value = { Walks };
 
     ghost view = { λ t. record { setting = t.product.now; walks = told t.product.now t.links.items } };
 
-    ghost invariant = { λ t. IsTree t.product.now t.links.items };
+    ghost invariant = { λ t. IsRankedTree t.product.now t.links.items t.ranks.items };
 }
 
 impl<'a> WalkTree<'a> {
@@ -37,6 +45,7 @@ impl<'a> WalkTree<'a> {
         WalkTree {
             product,
             links: Vec::new(alloc),
+            ranks: Vec::new(alloc),
         }
     }
 
@@ -58,14 +67,26 @@ impl<'a> WalkTree<'a> {
         &self.links[place]
     }
 
-    // Settles a walk behind the others.
+    // Settles a walk behind the others, which come no later.
     pub(crate) fn push(&mut self, next: Link) -> Result<(), Memory>
-        requires { IsTold self.old.setting self.old.walks next }
+        requires told { IsTold self.old.setting self.old.walks next }
+        requires later { AreNoLater self.old.walks (walk_of self.old.setting self.old.walks next) }
         ensures ok { OnOk result (self.new ≡ record self.old { walks = self.old.walks ++ walk_of self.old.setting self.old.walks next ∷ [] }) }
         ensures err { OnErr result (self.new ≡ self.old) }
     {
+        let rank = if repeats_last(self, &next) {
+            self.ranks[self.ranks.len() - 1]
+        } else {
+            self.ranks.len()
+        };
         self.links.push(next)?;
-        Ok(())
+        match self.ranks.push(rank) {
+            Ok(()) => Ok(()),
+            Err(_) => {
+                self.links.pop();
+                Err(Memory)
+            }
+        }
     }
 
     // Takes the last walk away, if there is one.
@@ -74,6 +95,23 @@ impl<'a> WalkTree<'a> {
         ensures walks { (walks : List FoundWalk) (a : FoundWalk) → self.old.walks ≡ walks ++ a ∷ [] → self.new.walks ≡ walks }
     {
         self.links.pop();
+        self.ranks.pop();
+    }
+
+    // The order of two settled walks with equally many edges by these, as their ranks tell it where both
+    // cost the same.
+    pub(crate) fn ranked(&self, one: usize, other: usize) -> Option<Ordering>
+        requires first { IsNumber self.now.walks one }
+        requires second { IsNumber self.now.walks other }
+        requires level { length (edges_if (numbered self.now.walks one)) ≡ length (edges_if (numbered self.now.walks other)) }
+        ensures { IfSome result (λ order.
+            order ≡ slice_cmp nat_cmp (edges_if (numbered self.now.walks one)) (edges_if (numbered self.now.walks other))) }
+    {
+        if self.at(one - 1).cost == self.at(other - 1).cost {
+            Some(self.ranks[one - 1].cmp(&self.ranks[other - 1]))
+        } else {
+            None
+        }
     }
 
     // The walk at a place, and a move behind it. A walk of 2^64 edges has no room in memory.

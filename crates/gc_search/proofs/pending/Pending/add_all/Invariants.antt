@@ -1,4 +1,4 @@
-use Rattle.std.proofs.Common.{◌++◌, length}
+use Rattle.std.proofs.Common.{◌++◌, drop}
 use Rattle.std.specs.List.{AllByRecursion}
 use Rattle.std.specs.List.Sorted.{IsPermutation}
 use Rattle.gc_search.specs.Links.{Walks}
@@ -7,10 +7,6 @@ use Rattle.gc_search.proofs.pending.Pending.add_all.Given as goal
 
 abbrev pub invariant-loop-next : goal.invariant-loop-next
 invariant-loop-next l = record {
-  added : IsPermutation (links_of l.initial.self ++ l.initial.more.items) (links_of l.self ++ l.more.items);
-  led : (tree : Walks) → IsLed tree l.last l.initial.self → AllByRecursion (IsBehind tree l.last) l.initial.more.items
-      → IsLed tree l.last l.self × AllByRecursion (IsBehind tree l.last) l.more.items;
+  added : IsPermutation (links_of l.initial.self ++ l.more) (links_of l.self ++ drop l.next-index l.more);
+  led : (tree : Walks) → IsLed tree l.last l.initial.self → AllByRecursion (IsBehind tree l.last) l.more → IsLed tree l.last l.self;
 }
-
-abbrev pub decreases-loop-next : goal.decreases-loop-next
-decreases-loop-next l = length l.more.items

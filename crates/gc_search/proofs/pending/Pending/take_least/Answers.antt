@@ -1,9 +1,9 @@
 use Rattle.std.proofs.Common.{◌≡◌, List, [], ◌++◌, Option, Some, None, sym, ap, subst, ◌∙◌, arith}
-use Rattle.std.specs.BinaryHeap.{heap_items}
 use Rattle.std.specs.Option.{IfSome, IfNone, MatchOption, option_to_list}
+use Rattle.gc_search.specs.Groups.{all_of}
 use Rattle.gc_search.specs.Links.{Link, Walks}
 use Rattle.gc_search.specs.Waiting.{Queue, links_of, IsQueue, IsFirstTaken}
-use Rattle.gc_search.proofs.HeapLaws.{none_there}
+use Rattle.gc_search.proofs.LoopLaws.{none_there}
 use Rattle.gc_search.proofs.WaitingLaws.{queue, front_taken}
 use Rattle.gc_search.proofs.pending.Pending.take_least.Goals as goal
 
@@ -19,7 +19,7 @@ none P Q (Some t) q m empty last = tt
 
 pub returns-clause-some : goal.returns-clause-some
 returns-clause-some c =
-    let later = heap_items c.self.inside.heap in
+    let later = all_of c.self.inside.groups.entries in
     let front = c.self.inside.front.items in
     let rest = c.pop.new.self.items in
     subst (λ (q : Queue). IfSome c.pop.result (λ t. (tree : Walks) → IsQueue tree q → IsFirstTaken tree q t (queue rest later))) c.self.view_is
@@ -28,7 +28,7 @@ returns-clause-some c =
 pub returns-clause-none : goal.returns-clause-none
 returns-clause-none c =
     let front = c.self.inside.front.items in
-    let q = queue front (heap_items c.self.inside.heap) in
+    let q = queue front (all_of c.self.inside.groups.entries) in
     subst (λ (v : Queue). IfNone c.pop.result (links_of v ≡ [])) c.self.view_is
     (none _ _ c.pop.result q c.pop.ensures.cases (λ h. none_there front (omega (arith, h.0, c.self.inside.front.ok)))
     (subst (λ (v : Queue). v.front ≡ [] → v.later ≡ []) (sym c.self.view_is) c.requires))

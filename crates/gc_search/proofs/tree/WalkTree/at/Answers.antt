@@ -13,7 +13,7 @@ stands c =
     let setting = c.self.inside.product.now in
     let within : c.args.place < length (told setting links) = omega (arith, c.requires, ap (λ (t : Walks). length t.walks) c.self.view_is) in
     subst (λ (t : Walks). StandsAt t.setting t.walks c.args.place c.index.result.now) c.self.view_is
-    (stands_at setting links c.args.place c.index.result.now c.self.invariant (omega (arith, tree_length setting links, within)) c.index.ensures)
+    (stands_at setting links c.args.place c.index.result.now c.self.invariant.tree (omega (arith, tree_length setting links, within)) c.index.ensures)
 
 pub returns-clause-exact : goal.returns-clause-exact
 returns-clause-exact c = (stands c).walk
