@@ -42,6 +42,22 @@ element_keys by.Walk n gs = numbered_keys n gs
 element_keys (by.Terms terms) n gs = numbered_keys n gs
 element_keys (by.Link source target terms) n gs = numbered_keys n gs
 
+-- elements are those of the groups, in order
+bound_groups : (gs : List Group) → map (λ (e : Element). e.group) (map (λ g. record { number = bound_number g.key; group = g }) gs) ≡ gs
+bound_groups [] = refl
+bound_groups (g ∷ gs) = λ j. g ∷ bound_groups gs j
+
+numbered_groups : (n : ℕ) (gs : List Group) → map (λ (e : Element). e.group) (numbered_from n gs) ≡ gs
+numbered_groups n [] = refl
+numbered_groups n (g ∷ gs) = λ j. g ∷ numbered_groups (n + 1) gs j
+
+pub element_groups : (grouping : Grouping) (n : ℕ) (gs : List Group) → map (λ (e : Element). e.group) (elements_by grouping n gs) ≡ gs
+element_groups by.Bound n gs = bound_groups gs
+element_groups by.EachRow n gs = numbered_groups n gs
+element_groups by.Walk n gs = numbered_groups n gs
+element_groups (by.Terms terms) n gs = numbered_groups n gs
+element_groups (by.Link source target terms) n gs = numbered_groups n gs
+
 -- elements ascend by key where their keys ascend
 all_keys : (P : Key → Type 0) (es : List Element) → AllByRecursion P (map (λ (e : Element). e.group.key) es) → AllByRecursion (λ e. P e.group.key) es
 all_keys P [] h = tt

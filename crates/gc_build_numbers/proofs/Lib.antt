@@ -1,3 +1,4 @@
 pub mod GroupsOf
 pub mod TermLaws
+pub mod WhichLaws
 pub mod WholeRowLaws

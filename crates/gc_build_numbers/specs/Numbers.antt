@@ -1,5 +1,5 @@
 -- How the elements of a CONSTRUCT are numbered.
-use Rattle.std.specs.Prelude.{ℕ, Bool, if◌then◌else◌, ◌+◌, List, [], ◌∷◌, ◌++◌, map, fold, length, Option, Some, None, slice_get}
+use Rattle.std.specs.Prelude.{ℕ, Bool, if◌then◌else◌, ◌+◌, List, [], ◌∷◌, ◌++◌, map, fold, length, Option, Some, None, slice_get, slice_set}
 use Rattle.std.specs.List.{filter, list_any}
 use Rattle.std.specs.Option.{option_and_then, unwrap_or}
 use Rattle.std.specs.Ordering.{is_eq, is_lt}
@@ -44,6 +44,10 @@ is_below key e = is_lt (key_order e.group.key key)
 
 abbrev pub which_has : List Element → Key → Option ℕ
 which_has elements key = if list_any (has_key key) elements then Some (length (filter (is_below key) elements)) else None
+
+-- which elements rows make, where one row more makes the element at this place
+abbrev pub with_place : (place : ℕ) → List (Option ℕ) → (row : ℕ) → List (Option ℕ)
+with_place place which row = slice_set which row (Some place)
 
 -- a variable with elements, and which of them each row makes
 abbrev pub numbered_by : Sym → List (Option Key) → List Element → Numbered

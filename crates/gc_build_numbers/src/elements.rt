@@ -1,10 +1,9 @@
-ghost use Rattle.std.specs.Prelude.{◌≡◌, IfOk, map};
+ghost use Rattle.std.specs.Prelude.{◌≡◌, ◌<◌, IfOk, fold, length, map};
+ghost use Rattle.std.specs.List.{All};
 ghost use Rattle.std.specs.Option.{option_and_then};
-ghost use Rattle.gc_base.specs.Ascending.{Ascends};
-ghost use Rattle.gc_base.specs.Places.{IsPlaceOrGap};
-ghost use Rattle.gc_group.specs.Groups.{key_order};
+ghost use Rattle.gc_group.specs.Groups.{AreGroupsOf};
 ghost use Rattle.gc_build_numbers.specs.Keys.{id_of};
-ghost use Rattle.gc_build_numbers.specs.Numbers.{bound_number, elements_by, which_has, numbered_from, taken_by};
+ghost use Rattle.gc_build_numbers.specs.Numbers.{bound_number, elements_by, numbered_from, taken_by, which_has, with_place};
 
 use crate::numbered::Element;
 use gc_base::Memory;
@@ -12,7 +11,6 @@ use gc_build_recipe::Grouping;
 use gc_group::{Group, Key};
 use gc_rows::Datum;
 use std::alloc::Global;
-use std::cmp::Ordering;
 
 /// The elements of groups, in their order; new ones are numbered from `next` on.
 pub(crate) fn elements(
@@ -97,54 +95,28 @@ fn id_of(datum: &Datum) -> Option<u64>
 }
 
 /// For each key of a row, in order, which of the elements has this key, if one does.
+/// These are the elements of the groups of the rows, so each is written at its rows and none is looked for.
 pub(crate) fn which(
     alloc: Global,
     keys: &[Option<Key>],
     elements: &[Element],
 ) -> Result<Vec<Option<usize>>, Memory>
-    requires { Ascends key_order (map (λ e. e.group.key) elements.now) }
+    requires { AreGroupsOf keys.now (map (λ e. e.group) elements.now) }
     ensures { IfOk result (λ which. which.items ≡ map (option_and_then (which_has elements.now)) keys.now) }
 {
-    let mut which = Vec::with_capacity(alloc, keys.len())?;
-    for key in keys {
-        which.push(which_of(elements, key))?;
+    let mut which = vec![in alloc; None; keys.len()]?;
+    for (place, element) in elements.iter().enumerate() {
+        give_place(&mut which, element.group.rows.as_slice(), place);
     }
     Ok(which)
 }
 
-// Which of the elements a row with this key makes, if it has one.
-fn which_of(elements: &[Element], key: &Option<Key>) -> Option<usize>
-    requires { Ascends key_order (map (λ e. e.group.key) elements.now) }
-    ensures { result ≡ option_and_then (which_has elements.now) key.now }
+// Has each of these rows make the element at a place.
+fn give_place(which: &mut [Option<usize>], rows: &[u64], place: usize)
+    requires { All (λ row. row < length which.old) rows.now }
+    ensures { which.new ≡ fold (with_place place) which.old rows.now }
 {
-    match key {
-        None => None,
-        Some(key) => which_has(elements, key),
+    for row in rows {
+        which[*row as usize] = Some(place);
     }
-}
-
-// Which of the elements has a key, if one does.
-fn which_has(elements: &[Element], key: &Key) -> Option<usize>
-    requires { Ascends key_order (map (λ e. e.group.key) elements.now) }
-    ensures { result ≡ which_has elements.now key.now }
-{
-    match search(elements, key) {
-        Ok(place) => Some(place),
-        Err(_) => None,
-    }
-}
-
-// Where the element with a key is, or would be.
-fn search(elements: &[Element], key: &Key) -> Result<usize, usize>
-    requires { Ascends key_order (map (λ e. e.group.key) elements.now) }
-    ensures { IsPlaceOrGap (λ e. key_order e.group.key key.now) elements.now result }
-{
-    elements.binary_search_by(|element| key_cmp(&element.group.key, key))
-}
-
-// The order of keys: part by part, unbound first.
-fn key_cmp(a: &Key, b: &Key) -> Ordering
-    ensures { result ≡ key_order a.now b.now }
-{
-    a.parts.as_slice().cmp(b.parts.as_slice())
 }

@@ -1,6 +1,5 @@
-ghost use Rattle.std.specs.Prelude.{◌≡◌, IfOk, OnOk, map};
-ghost use Rattle.gc_base.specs.Ascending.{Ascends};
-ghost use Rattle.gc_group.specs.Groups.{key_order};
+ghost use Rattle.std.specs.Prelude.{◌≡◌, IfOk, OnOk};
+ghost use Rattle.gc_group.specs.Groups.{AreGroupsOf};
 ghost use Rattle.gc_build_numbers.specs.Keys.{groups_of};
 ghost use Rattle.gc_build_numbers.specs.Numbers.{elements_by, numbered_by, numbering, with_keys, with_variable};
 
@@ -74,12 +73,12 @@ fn add_by_keys(
 // The groups of the rows with these keys, by ascending keys.
 fn groups_of(alloc: Global, keys: &[Option<Key>]) -> Result<Vec<Group>, Memory>
     ensures groups { IfOk result (λ groups. groups.items ≡ groups_of keys.now) }
-    ensures ascend { IfOk result (λ groups. Ascends key_order (map (λ g. g.key) groups.items)) }
+    ensures each { IfOk result (λ groups. AreGroupsOf keys.now groups.items) }
 {
     groups(alloc, keys)
 }
 
-// A variable with the elements of these groups, and which of them each row makes by its key.
+// A variable with the elements of the groups of rows with these keys, and which of them each row makes.
 fn numbered_by(
     alloc: Global,
     next: u64,
@@ -87,7 +86,7 @@ fn numbered_by(
     keys: &[Option<Key>],
     groups: Vec<Group>,
 ) -> Result<Numbered, Memory>
-    requires { Ascends key_order (map (λ g. g.key) groups.items) }
+    requires { AreGroupsOf keys.now groups.items }
     ensures { IfOk result (λ n. n ≡ numbered_by variable.now.var keys.now (elements_by variable.now.grouping next groups.items)) }
 {
     let elements = elements(alloc, &variable.grouping, next, groups)?;

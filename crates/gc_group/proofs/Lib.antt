@@ -1,3 +1,3 @@
 pub mod CollectLaws
-pub mod GroupLaws
+pub mod Gathering
 pub mod KeyOrder

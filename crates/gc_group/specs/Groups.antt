@@ -1,5 +1,5 @@
 -- Groups of rows by their keys.
-use Rattle.std.specs.Prelude.{◌≡◌, ℕ, ◌+◌, Bool, false, List, [], ◌∷◌, ◌++◌, map, Option, None, Some, if◌then◌else◌}
+use Rattle.std.specs.Prelude.{◌≡◌, ℕ, ◌+◌, Bool, false, List, [], ◌∷◌, map, Option, None, Some, if◌then◌else◌}
 use Rattle.std.specs.declared.cmp.Ordering.{Ordering}
 use Rattle.std.specs.Ordering.{is_eq, on}
 use Rattle.std.specs.Cmp.Lexicographic.{slice_cmp}
@@ -37,11 +37,3 @@ pub record AreGroupsOf (keys : List (Option Key)) (groups : List Group) : Type 0
   pub ascend : Ascends key_order (map (λ g. g.key) groups)
   pub exact : HasExactly (held_keys keys) (map (λ g. g.key) groups)
   pub rows : AllByRecursion (λ g. g.rows ≡ rows_with g.key keys) groups
-
--- a group without rows
-abbrev pub bare : Key → Group
-bare key = record { key = key; rows = [] }
-
--- a group with a row more, where that has its key
-abbrev pub with_row : Option Key → ℕ → Group → Group
-with_row key n g = if is_key g.key key then record { key = g.key; rows = g.rows ++ n ∷ [] } else g

@@ -1,12 +1,13 @@
-ghost use Rattle.std.specs.Prelude.{◌≡◌, IfOk, OnOk, Some, map};
-ghost use Rattle.gc_base.specs.Ascending.{Ascends};
-ghost use Rattle.gc_base.specs.Places.{IsPlaceOrGap};
-ghost use Rattle.gc_group.specs.Groups.{AreGroupsOf, bare, with_row, key_order};
+ghost use Rattle.std.specs.Prelude.{◌≡◌, IfOk};
+ghost use Rattle.std.specs.List.Sorted.{IsSortedByKey};
+ghost use Rattle.gc_group.specs.Gathered.{AreGathered, alone};
+ghost use Rattle.gc_group.specs.Groups.{AreGroupsOf, key_order};
 
-use crate::held::{Held, distinct};
+use crate::held::{Held, keyed_rows, sorted};
 use crate::key::{Key, key_cmp};
 use gc_base::{Memory, Sequence};
 use std::alloc::Global;
+use std::mem;
 
 /// A key, and the rows that have it.
 #[derive(Debug, Drop)]
@@ -23,54 +24,39 @@ pub type RowNumbers = Sequence<u64>;
 pub fn groups(alloc: Global, keys: &[Option<Key>]) -> Result<Vec<Group>, Memory>
     ensures { IfOk result (λ groups. AreGroupsOf keys.now groups.items) }
 {
-    let mut groups = empty_groups(alloc, &distinct(alloc, keys)?)?;
-    for (row, key) in keys.iter().enumerate() {
-        add_row(&mut groups, key, row as u64)?;
+    gathered(alloc, sorted(keyed_rows(alloc, keys)?)?)
+}
+
+// The groups of rows that ascend by their keys, so that those of one key stand together.
+fn gathered(alloc: Global, rows: Vec<Held<'_>>) -> Result<Vec<Group>, Memory>
+    requires { IsSortedByKey (λ r. r.key) key_order rows.items }
+    ensures { IfOk result (λ groups. AreGathered rows.entry.items groups.items) }
+{
+    let mut groups = Vec::new(alloc);
+    let mut rows = rows.into_iter();
+    let Some(first) = rows.next() else {
+        return Ok(groups);
+    };
+    let mut last = alone(alloc, &first)?;
+    for row in rows {
+        if key_cmp(&last.key, row.key).is_eq() {
+            last.rows.push(row.row)?;
+        } else {
+            groups.push(mem::replace(&mut last, alone(alloc, &row)?))?;
+        }
     }
+    groups.push(last)?;
     Ok(groups)
 }
 
-// A group without rows for each key.
-fn empty_groups(alloc: Global, keys: &[Held]) -> Result<Vec<Group>, Memory>
-    ensures { IfOk result (λ groups. groups.items ≡ map bare keys.now) }
+// A row alone as a group.
+fn alone(alloc: Global, row: &Held) -> Result<Group, Memory>
+    ensures { IfOk result (λ group. group ≡ alone row.now) }
 {
-    let mut groups = Vec::with_capacity(alloc, keys.len())?;
-    for held in keys {
-        groups.push(Group {
-            key: held.key.copied(alloc)?,
-            rows: RowNumbers::new(alloc),
-        })?;
-    }
-    Ok(groups)
-}
-
-// Adds a row to the group of its key, if it has one.
-fn add_row(groups: &mut Vec<Group>, key: &Option<Key>, row: u64) -> Result<(), Memory>
-    requires { Ascends key_order (map (λ g. g.key) groups.old.items) }
-    ensures { OnOk result (groups.new.items ≡ map (with_row key.now row) groups.old.items) }
-{
-    match key {
-        None => Ok(()),
-        Some(key) => add_row_of(groups, key, row),
-    }
-}
-
-// Adds a row to the group of its key.
-fn add_row_of(groups: &mut Vec<Group>, key: &Key, row: u64) -> Result<(), Memory>
-    requires { Ascends key_order (map (λ g. g.key) groups.old.items) }
-    ensures { OnOk result (groups.new.items ≡ map (with_row (Some key.now) row) groups.old.items) }
-{
-    match search(groups, key) {
-        Ok(place) => groups[place].rows.push(row)?,
-        Err(_) => {}
-    }
-    Ok(())
-}
-
-// Where the group of a key is, or would be.
-fn search(groups: &[Group], key: &Key) -> Result<usize, usize>
-    requires { Ascends key_order (map (λ g. g.key) groups.now) }
-    ensures { IsPlaceOrGap (λ g. key_order g.key key.now) groups.now result }
-{
-    groups.binary_search_by(|group| key_cmp(&group.key, key))
+    let mut rows = RowNumbers::new(alloc);
+    rows.push(row.row)?;
+    Ok(Group {
+        key: row.key.copied(alloc)?,
+        rows,
+    })
 }

@@ -1,54 +1,50 @@
 ghost use Rattle.std.specs.Prelude.{◌≡◌, IfOk};
-ghost use Rattle.gc_base.specs.Ascending.{Ascends};
-ghost use Rattle.gc_rows.specs.Tables.{HasExactly};
-ghost use Rattle.gc_group.specs.Groups.{held_keys, key_order};
+ghost use Rattle.std.specs.List.Sorted.{IsPermutation, IsSortedByKey, IsStableByKey};
+ghost use Rattle.gc_group.specs.Gathered.{keyed_rows};
+ghost use Rattle.gc_group.specs.Groups.{key_order};
 
 use crate::key::{Key, key_cmp};
 use gc_base::Memory;
 use std::alloc::Global;
 use std::marker::Model;
 
-/// The key of a row, where it stands. Contracts see the key.
+/// The number of a row that has a key, and the key where it stands. Contracts see both.
 #[derive(Drop)]
 pub(crate) struct Held<'a> {
     pub key: &'a Key,
+    pub row: u64,
 }
 
 impl<'a> Model for Held<'a> {
-    ghost use Rattle.gc_group.specs.declared.key.Key.{Key};
+    ghost use Rattle.gc_group.specs.Gathered.{KeyedRow};
 
-    ghost Value = { Key };
+    ghost Value = { KeyedRow };
 
-    ghost view = { λ h. h.key.now };
+    ghost view = { λ h. record { key = h.key.now; row = h.row } };
 }
 
-/// The keys that rows have, ascending, each once.
-pub(crate) fn distinct(alloc: Global, keys: &[Option<Key>]) -> Result<Vec<Held<'_>>, Memory>
-    ensures ascend { IfOk result (λ held. Ascends key_order held.items) }
-    ensures exact { IfOk result (λ held. HasExactly (held_keys keys.now) held.items) }
+/// The rows that have keys, in order.
+pub(crate) fn keyed_rows(alloc: Global, keys: &[Option<Key>]) -> Result<Vec<Held<'_>>, Memory>
+    ensures { IfOk result (λ held. held.items ≡ keyed_rows keys.now) }
 {
-    sorted(row_keys(alloc, keys)?)
-}
-
-// The keys that rows have, row by row.
-fn row_keys(alloc: Global, keys: &[Option<Key>]) -> Result<Vec<Held<'_>>, Memory>
-    ensures { IfOk result (λ held. held.items ≡ held_keys keys.now) }
-{
-    let mut held = Vec::new(alloc);
-    for key in keys {
+    let mut held = Vec::with_capacity(alloc, keys.len())?;
+    for (row, key) in keys.iter().enumerate() {
         if let Some(key) = key {
-            held.push(Held { key })?;
+            held.push(Held {
+                key,
+                row: row as u64,
+            })?;
         }
     }
     Ok(held)
 }
 
-// These keys, ascending, each once.
-fn sorted(mut held: Vec<Held<'_>>) -> Result<Vec<Held<'_>>, Memory>
-    ensures ascend { IfOk result (λ sorted. Ascends key_order sorted.items) }
-    ensures exact { IfOk result (λ sorted. HasExactly held.entry.items sorted.items) }
+/// These rows by ascending keys; rows of one key stay in their order.
+pub(crate) fn sorted(mut held: Vec<Held<'_>>) -> Result<Vec<Held<'_>>, Memory>
+    ensures ascend { IfOk result (λ sorted. IsSortedByKey (λ r. r.key) key_order sorted.items) }
+    ensures same { IfOk result (λ sorted. IsPermutation held.entry.items sorted.items) }
+    ensures stable { IfOk result (λ sorted. IsStableByKey (λ r. r.key) key_order held.entry.items sorted.items) }
 {
     held.sort_by(|a, b| key_cmp(a.key, b.key))?;
-    held.dedup_by(|a, b| key_cmp(a.key, b.key).is_eq());
     Ok(held)
 }

@@ -4,6 +4,3 @@ use Rattle.gc_build_numbers.proofs.numbering.groups_of.Goals as goal
 
 pub returns-clause-groups : goal.returns-clause-groups
 returns-clause-groups c = IfOk-weaker c.groups.result _ _ (λ gs h. are_groups_of c.args.keys.now gs.items h) c.groups.ensures
-
-pub returns-clause-ascend : goal.returns-clause-ascend
-returns-clause-ascend c = IfOk-weaker c.groups.result _ _ (λ gs h. h.ascend) c.groups.ensures
