@@ -255,15 +255,20 @@ rises_last (z ∷ xs) y x r (inl e) = inl (subst (λ v. Before v y) e (r.0 y (Ha
 rises_last (z ∷ xs) y x r (inr h) = rises_last xs y x r.1 h
 
 module _ (P : Type 0) (passages : P → List (Passage P)) (source : P) (k : ℕ) (each : (p : P) (m : Passage P) → Has (passages p) m → IsCounted m) where
-  -- of walks whose edges tell their costs, one that is pending can have the edges of the last alone
-  pub last_alone : (at : P → List Entry) (pending : P → Entry → Type 0) → Inv P passages source k at pending → (q : P) (e : Entry) → pending q e
-      → (xs : List Entry) (y : Entry) → at q ≡ xs ++ y ∷ [] → (y.edges ≡ e.edges → ⊥) → (x : Entry) → Has (at q) x → x.edges ≡ e.edges → ⊥
-  last_alone at pending inv q e h xs y is other x g same =
+  -- walks with one list of edges cost the same
+  pub same_cost : (at : P → List Entry) (pending : P → Entry → Type 0) → Inv P passages source k at pending → (q : P) (x e : Entry) → Has (at q) x → pending q e → x.edges ≡ e.edges → x.cost ≡ e.cost
+  same_cost at pending inv q x e g h same =
       let mine = inv.sound q x g in
       let theirs = inv.pending_sound q e h in
       let a : x.cost ≡ length x.edges = goes_counted passages each mine.0 source q (entry 0 []) x mine.1 refl in
       let b : e.cost ≡ length e.edges = goes_counted passages each theirs.0 source q (entry 0 []) e theirs.1 refl in
-      let cost : x.cost ≡ e.cost = omega (arith, a, b, ap length same) in
+      omega (arith, a, b, ap length same)
+
+  -- of walks whose edges tell their costs, one that is pending can have the edges of the last alone
+  pub last_alone : (at : P → List Entry) (pending : P → Entry → Type 0) → Inv P passages source k at pending → (q : P) (e : Entry) → pending q e
+      → (xs : List Entry) (y : Entry) → at q ≡ xs ++ y ∷ [] → (y.edges ≡ e.edges → ⊥) → (x : Entry) → Has (at q) x → x.edges ≡ e.edges → ⊥
+  last_alone at pending inv q e h xs y is other x g same =
+      let cost = same_cost at pending inv q x e g h same in
       let last : Has (at q) y = subst (λ v. Has v y) (sym is) (Has_back xs y) in
       elim (rises_last xs y x (subst Rises is (inv.ascends q)) (subst (λ v. Has v x) is g)) [
         | inl before ↦

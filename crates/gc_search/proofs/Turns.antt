@@ -1,6 +1,6 @@
 -- The turns of the search: one that settles the least walk that is pending, and two that drop it.
-use Rattle.std.proofs.Common.{◌≡◌, ℕ, ◌+◌, ◌*◌, ◌^◌, ◌<◌, ◌≤◌, List, [], ◌∷◌, ◌++◌, inl, inr, length, map, Option, None, Some, Bool, true, false, nat_lt, refl, ap, ◌∙◌, subst, arith, length-append}
-use Rattle.std.specs.List.{AllByRecursion}
+use Rattle.std.proofs.Common.{◌≡◌, ℕ, ◌+◌, ◌-◌, ◌*◌, ◌^◌, ◌<◌, ◌≤◌, List, [], ◌∷◌, ◌++◌, inl, inr, length, map, Option, None, Some, Bool, true, false, nat_lt, refl, sym, ap, ◌∙◌, subst, arith, length-append}
+use Rattle.std.specs.List.{AllByRecursion, slice_get}
 use Rattle.std.specs.List.Sorted.{IsPermutation}
 use Rattle.std.proofs.lemmas.List.{map-append}
 use Rattle.std.proofs.lemmas.List.Sorted.{IsPermutation-sym}
@@ -8,18 +8,40 @@ use Rattle.gc_base.proofs.SetLaws.{AllByRecursion-append}
 use Rattle.gc_prod.specs.declared.moves.Pair.{Pair}
 use Rattle.gc_prod.specs.Leading.{pair, target_of}
 use Rattle.gc_prod.specs.Products.{Setting, moves}
-use Rattle.gc_search.specs.Arrivals.{FoundWalk, entry_of, arrivals_at, settled_at, passages, stays_at, extended, extensions, open_moves, TakesLeast, IsNew, IsOld, IsSeen, IsUnknown, IsAsked, IsDone}
+use Rattle.gc_search.specs.Arrivals.{FoundWalk, entry_of, arrivals_at, settled_at, passages, stays_at, extended, extensions, open_moves, TakesLeast, NoLater, same_pair, IsNew, IsOld, IsSeen, IsUnknown, IsAsked, IsDone}
+use Rattle.gc_search.specs.Entries.{Entry, AtMost, Strictly, Same}
 use Rattle.gc_search.specs.Finding.{IsFollowed}
 use Rattle.gc_search.specs.Passages.{Has, Passage, IsOnward, IsCounted, Reach, IsFirstK}
 use Rattle.gc_search.specs.Ranks.{AreNoLater}
 use Rattle.gc_search.proofs.Bridge.{contains_of, follows_push, has_permuted}
 use Rattle.gc_search.proofs.Flat.{IsPending, State, state_start, state_end, state_same, state_seen, state_full, state_full_at, state_settle, settled_has, Has_from_map, Has_filtered}
-use Rattle.gc_search.proofs.Settle.{last_alone}
+use Rattle.gc_search.proofs.Order.{before_same_walk, before_trans, entry_eq}
+use Rattle.gc_search.proofs.RankLaws.{got_has, something}
+use Rattle.gc_search.proofs.Settle.{Has_pushed, last_alone, same_cost}
 use Rattle.gc_search.proofs.LoopLaws.{all_has, all_of_has, all_rest, costs_more}
 
 last_of : (x : FoundWalk) (xs : List FoundWalk) → (before : List FoundWalk) × (y : FoundWalk) × ((x ∷ xs) ≡ before ++ y ∷ [])
 last_of x [] = ([], x, refl)
 last_of x (z ∷ xs) = let l = last_of z xs in (x ∷ l.0, l.1, ap (λ v. x ∷ v) l.2)
+
+-- the last of some walks
+last_is : (xs : List FoundWalk) (a y : FoundWalk) → slice_get (xs ++ a ∷ []) (length (xs ++ a ∷ []) - 1) ≡ Some y → a ≡ y
+last_is xs a y h =
+    let n : length (xs ++ a ∷ []) - 1 ≡ length xs = omega (arith, length-append xs (a ∷ [])) in
+    at_end xs a y (subst (λ i. slice_get (xs ++ a ∷ []) i ≡ Some y) n h)
+  where
+    at_end : (xs : List FoundWalk) (a y : FoundWalk) → slice_get (xs ++ a ∷ []) (length xs) ≡ Some y → a ≡ y
+    at_end [] a y h = cc
+    at_end (x ∷ xs) a y h = at_end xs a y h
+
+last_there : (xs : List FoundWalk) (x : FoundWalk) → Has xs x → (y : FoundWalk) × (slice_get xs (length xs - 1) ≡ Some y)
+last_there [] x h = elim h [ ]
+last_there (z ∷ xs) x h = something (z ∷ xs) (length (z ∷ xs) - 1) (omega arith)
+
+between : (a b : Entry) → AtMost b a → AtMost a b → a ≡ b
+between a b (Same e) g = sym e
+between a b (Strictly h) (Same e) = e
+between a b (Strictly h) (Strictly g) = let l = before_same_walk a a (before_trans a b a g h) refl in absurd (omega (arith, l))
 
 module _ (setting : Setting) (source k : ℕ) where
   -- what holds before and after each turn: each that is pending costs at most so much for each that is settled, and these are too few
@@ -30,6 +52,7 @@ module _ (setting : Setting) (source k : ℕ) where
     pub low : AllByRecursion (λ a. a.cost < 2 ^ 127) settled
     pub found : AllByRecursion (IsFollowed setting source) settled
     pub due : AllByRecursion (IsFollowed setting source) pending
+    pub latest : (y : FoundWalk) → slice_get settled (length settled - 1) ≡ Some y → AreNoLater settled y
 
   -- the order of those that are pending means nothing
   pub permuted : (settled xs ys : List FoundWalk) → IsPermutation xs ys → IsOn settled xs → IsOn settled ys
@@ -41,11 +64,12 @@ module _ (setting : Setting) (source k : ℕ) where
         low = on.low;
         found = on.found;
         due = all_of_has (IsFollowed setting source) ys (λ x h. all_has (IsFollowed setting source) xs x on.due (back x h));
+        latest = on.latest;
       }
 
   pub turn_start : (pending : List FoundWalk) → stays_at source ∷ [] ≡ pending → IsOn [] pending
   turn_start pending same =
-      subst (IsOn []) same (record { state = state_start setting source k; small = (omega arith, tt); low = tt; found = tt; due = ((refl, refl, refl), tt) })
+      subst (IsOn []) same (record { state = state_start setting source k; small = (omega arith, tt); low = tt; found = tt; due = ((refl, refl, refl), tt); latest = λ y at. cc })
 
   pub turn_end : (settled pending : List FoundWalk) → IsOn settled pending → pending ≡ [] → (q : Pair) → IsFirstK k (Reach (passages setting) (pair source 0) q) (settled_at settled q)
   turn_end settled pending on none = state_end setting source k settled (subst (State setting source k settled) none on.state)
@@ -83,6 +107,7 @@ module _ (setting : Setting) (source k : ℕ) where
       low = on.low;
       found = on.found;
       due = all_rest (IsFollowed setting source) cs rest c t on.due;
+      latest = on.latest;
     }
 
     pub turn_old : IsOld settled k c → IsOn settled rest
@@ -92,7 +117,15 @@ module _ (setting : Setting) (source k : ℕ) where
     -- a walk that may be new is so
     pub turn_unseen : (plain : Bool) → (plain ≡ true → (q : Pair) (m : Passage Pair) → Has (passages setting q) m → IsCounted m) → IsUnknown plain settled c → IsSeen settled c → ⊥
     turn_unseen false each new seen = new seen
-    turn_unseen true each new seen = by (arrivals_at settled c.at) refl
+    turn_unseen true each (inl other) seen =
+        let from = Has_from_map entry_of (arrivals_at settled c.at) seen.0 seen.1 in
+        let among = Has_filtered (λ (a : FoundWalk). same_pair a.at c.at) settled from.0 from.1 in
+        let cost = same_cost Pair (passages setting) (pair source 0) k (each refl) (settled_at settled) (IsPending cs) on.state c.at seen.0 (entry_of c) seen.1 (c, t.there, refl, refl) seen.2 in
+        let is : entry_of from.0 ≡ entry_of c = from.2 ∙ entry_eq seen.0 (entry_of c) cost seen.2 in
+        let last = last_there settled from.0 among in
+        let first : NoLater from.0 last.0 = on.latest last.0 last.1 from.0 among in
+        other (last.0, last.1, between (entry_of last.0) (entry_of c) (subst (λ (e : Entry). AtMost e (entry_of last.0)) is first) (turn_later last.0 (got_has settled (length settled - 1) last.0 last.1)))
+    turn_unseen true each (inr new) seen = by (arrivals_at settled c.at) refl
       where
         by : (found : List FoundWalk) → arrivals_at settled c.at ≡ found → ⊥
         by [] e = subst (λ (l : List FoundWalk). Has (map entry_of l) seen.0) e seen.1
@@ -120,4 +153,7 @@ module _ (setting : Setting) (source k : ℕ) where
           low = AllByRecursion-append (λ (a : FoundWalk). a.cost < 2 ^ 127) settled (c ∷ []) on.low (low, tt);
           found = AllByRecursion-append (IsFollowed setting source) settled (c ∷ []) on.found (is_followed, tt);
           due = AllByRecursion-append (IsFollowed setting source) rest next (all_rest (IsFollowed setting source) cs rest c t on.due) (followed_further (settled ++ c ∷ []) c is_followed);
+          latest = λ y at.
+              let one : c ≡ y = last_is settled c y at in
+              subst (AreNoLater (settled ++ c ∷ [])) one (λ x h. elim (Has_pushed settled c x h) [ inl g ↦ turn_later x g | inr e ↦ Same (ap entry_of (sym e)) ]);
         })

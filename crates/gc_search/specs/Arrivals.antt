@@ -1,5 +1,5 @@
 -- Walks from the source that are found, each with the run by which it is.
-use Rattle.std.specs.Prelude.{length, suc, slice_get, ◌≡◌, ◌⊎◌, ℕ, ◌+◌, ◌<◌, ◌≤◌, ◌^◌, nat_lt, Bool, true, false, ◌&&◌, ◌==◌, List, [], ◌∷◌, ◌++◌, map, Option, Some, None}
+use Rattle.std.specs.Prelude.{length, suc, slice_get, ◌≡◌, ◌⊎◌, ℕ, ◌+◌, ◌-◌, ◌<◌, ◌≤◌, ◌^◌, nat_lt, Bool, true, false, ◌&&◌, ◌==◌, List, [], ◌∷◌, ◌++◌, map, Option, Some, None}
 use Rattle.std.specs.List.{filter}
 use Rattle.gc_base.specs.declared.walk.Step.{Step}
 use Rattle.gc_prod.specs.declared.moves.Move.{Move}
@@ -93,9 +93,13 @@ IsOld settled k a = (k ≤ length (settled_at settled a.at)) ⊎ IsSeen settled 
 abbrev pub IsNotLast : List FoundWalk → FoundWalk → Type 0
 IsNotLast settled a = (xs : List FoundWalk) (y : FoundWalk) → arrivals_at settled a.at ≡ xs ++ y ∷ [] → edges_along y.steps ≡ edges_along a.steps → ⊥
 
--- where the edges tell the cost, the last walk at the pair is looked at, and else all are
+-- the last of some walks has the cost and the edges of one
+abbrev pub IsRepeated : List FoundWalk → FoundWalk → Type 0
+IsRepeated walks a = (y : FoundWalk) × (slice_get walks (length walks - 1) ≡ Some y) × (entry_of y ≡ entry_of a)
+
+-- where the edges tell the cost, the last walk of all is looked at, and then the last at the pair; and else all at the pair are
 abbrev pub IsUnknown : Bool → List FoundWalk → FoundWalk → Type 0
-IsUnknown true settled a = IsNotLast settled a
+IsUnknown true settled a = (IsRepeated settled a → ⊥) ⊎ IsNotLast settled a
 IsUnknown false settled a = IsSeen settled a → ⊥
 
 abbrev pub IsFree : Bool → List FoundWalk → ℕ → FoundWalk → Type 0

@@ -1,5 +1,5 @@
 -- Ranks of settled walks, which tell their order.
-use Rattle.std.specs.Prelude.{◌≡◌, ℕ, ◌-◌, ◌<◌, ◌≤◌, List, length, slice_get, Some}
+use Rattle.std.specs.Prelude.{◌≡◌, ℕ, ◌<◌, ◌≤◌, List, length, slice_get, Some}
 use Rattle.std.specs.List.{zip}
 use Rattle.gc_prod.specs.Products.{Setting}
 use Rattle.gc_search.specs.Arrivals.{FoundWalk, entry_of, NoLater}
@@ -28,7 +28,3 @@ pub record IsRankedTree (setting : Setting) (links : List Link) (ranks : List �
 -- all of some walks come no later than one
 abbrev pub AreNoLater : List FoundWalk → FoundWalk → Type 0
 AreNoLater walks a = (x : FoundWalk) → Has walks x → NoLater x a
-
--- the last of some walks has the cost and the edges of one
-abbrev pub IsRepeated : List FoundWalk → FoundWalk → Type 0
-IsRepeated walks a = (y : FoundWalk) × (slice_get walks (length walks - 1) ≡ Some y) × (entry_of y ≡ entry_of a)

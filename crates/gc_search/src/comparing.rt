@@ -1,9 +1,8 @@
 ghost use Rattle.std.specs.Prelude.{◌≡◌, ◌<◌, IfSome};
 ghost use Rattle.std.specs.Ordering.{nat_cmp};
 ghost use Rattle.std.specs.Cmp.Lexicographic.{slice_cmp};
-ghost use Rattle.gc_search.specs.Arrivals.{Told};
+ghost use Rattle.gc_search.specs.Arrivals.{IsRepeated, Told};
 ghost use Rattle.gc_search.specs.Links.{walk_of};
-ghost use Rattle.gc_search.specs.Ranks.{IsRepeated};
 ghost use Rattle.gc_search.specs.Tails.{IsLevel, IsMet, compared_order, edges_order, edges_told, tail_edges, way_back};
 
 use crate::link::Link;

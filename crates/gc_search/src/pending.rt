@@ -57,7 +57,7 @@ impl Pending {
 
     // Fills the front where it is empty: with the first group, the least last. Walks are settled in order, so
     // those that extend them mostly came in order: turned around, a group is made of few runs, which this
-    // sort finds.
+    // sort finds. What it has room for beyond its walks is given back first.
     pub(crate) fn fill_front(&mut self, tree: &WalkTree) -> Result<(), Memory>
         requires { IsQueue tree.now self.old }
         ensures { OnOk result (IsFilled tree.now self.old self.new) }
@@ -68,6 +68,7 @@ impl Pending {
         let Some((_, mut group)) = self.groups.pop_first() else {
             return Ok(());
         };
+        group.shrink_to_fit();
         group.reverse();
         group.sort_by(|a, b| edges_order(tree, b, a))?;
         self.front = group;

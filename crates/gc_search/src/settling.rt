@@ -11,6 +11,7 @@ ghost use Rattle.gc_search.specs.Passages.{Has, IsCounted, IsOnward, Passage, Re
 ghost use Rattle.gc_search.specs.Places.{tree_of};
 ghost use Rattle.gc_search.specs.Waiting.{told_by, IsGrown};
 
+use crate::comparing::repeats_last;
 use crate::link::Link;
 use crate::pending::Pending;
 use crate::settled::Settled;
@@ -100,9 +101,22 @@ fn is_known(settled: &Settled, next: &Link, plain: bool) -> bool
         (IsUnknown plain settled.now.walks (told_by (tree_of settled.now) next.now)) }
 {
     if plain {
-        settled.is_last(next)
+        is_last_again(settled, next)
     } else {
         settled.is_seen(next)
+    }
+}
+
+// Whether a walk repeats the last one of all, and the edges of the last one at its pair. The first is at hand,
+// and tells that most walks do not.
+fn is_last_again(settled: &Settled, next: &Link) -> bool
+    ensures { Told result (IsSeen settled.now.walks (told_by (tree_of settled.now) next.now))
+        (IsUnknown true settled.now.walks (told_by (tree_of settled.now) next.now)) }
+{
+    if repeats_last(&settled.tree, next) {
+        settled.is_last(next)
+    } else {
+        false
     }
 }
 

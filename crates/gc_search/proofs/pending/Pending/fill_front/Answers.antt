@@ -32,4 +32,4 @@ returns c =
     let sorted : IsSorted order items =
     c.in_ok-sort_by.ensures.sorted (λ x y. is_lt (order x y)) (ranks_by (front_order_total tree.setting tree.walks) (λ x. x))
     (always_returns_same _ _ _ (λ a r f called. search rules)) in
-    filled tree c.args.self.now middle items c.requires same (first_group first rest (subst AreGroups is c.self.invariant) c.in-Some.ensures.all_above) (IsPermutation-trans c.in-Some.group.items turned items c.reverse.ensures.permutation c.sort_by.ensures.permutation) sorted
+    filled tree c.args.self.now middle items c.requires same (first_group first rest (subst AreGroups is c.self.invariant) c.in-Some.ensures.all_above) (IsPermutation-trans c.in-Some.group.items turned items (subst (λ (l : List Link). IsPermutation l turned) c.shrink_to_fit.ensures.items c.reverse.ensures.permutation) c.sort_by.ensures.permutation) sorted

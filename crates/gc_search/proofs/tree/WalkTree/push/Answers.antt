@@ -1,7 +1,7 @@
 use Rattle.std.proofs.Common.{◌≡◌, ◌<◌, ◌-◌, ℕ, List, [], ◌∷◌, ◌++◌, length, slice_index_or, sym, ap, subst, ◌∙◌, arith}
-use Rattle.gc_search.specs.Arrivals.{FoundWalk}
+use Rattle.gc_search.specs.Arrivals.{FoundWalk, IsRepeated}
 use Rattle.gc_search.specs.Links.{Link, Walks, walk_of, told, IsTold}
-use Rattle.gc_search.specs.Ranks.{AreNoLater, IsRankedTree, IsRepeated}
+use Rattle.gc_search.specs.Ranks.{AreNoLater, IsRankedTree}
 use Rattle.gc_search.proofs.RankLaws.{got_within, pushed_own, pushed_shared}
 use Rattle.gc_search.proofs.TreeLaws.{got, told_push, tree_length}
 use Rattle.gc_search.proofs.tree.WalkTree.push.Goals as goal
