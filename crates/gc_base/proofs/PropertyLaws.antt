@@ -1,5 +1,5 @@
 -- Properties stay properties when one goes in or comes out.
-use Rattle.std.proofs.Common.{◌≡◌, true, false, List, [], ◌∷◌, length, ◌<◌, refl, arith}
+use Rattle.std.proofs.Common.{◌≡◌, true, false, List, [], ◌∷◌, length, ◌<◌, refl, subst, sym, arith, OnOk, OnErr, Result, Ok, Err, ◌∙◌}
 use Rattle.std.specs.Cmp.{IsTotalOrder, on_total}
 use Rattle.std.specs.Cmp.Lexicographic.{nat_list_cmp_total}
 use Rattle.gc_base.specs.Ascending.{with_item, without_item}
@@ -30,3 +30,15 @@ is_nil-nonempty (x ∷ xs) h = refl
 pub is_nil-empty : {X : Type 0} (xs : List X) → length xs ≡ 0 → is_nil xs ≡ true
 is_nil-empty [] h = refl
 is_nil-empty (x ∷ xs) h = absurd (omega arith)
+
+-- properties that changed to other properties, or stayed where memory is wanting, are properties
+pub AreProperties-changed :
+    {T E : Type 0} (r : Result T E) (before after changed : List Property)
+    → OnOk r (after ≡ changed) → OnErr r (after ≡ before) → AreProperties before → AreProperties changed → AreProperties after
+AreProperties-changed (Ok x) before after changed ok err b c = subst AreProperties (sym ok) c
+AreProperties-changed (Err e) before after changed ok err b c = subst AreProperties (sym err) b
+
+-- where a list changed to one, it changed to what this one is
+pub changed-to : {T E X : Type 0} (r : Result T E) (after changed due : X) → OnOk r (after ≡ changed) → changed ≡ due → OnOk r (after ≡ due)
+changed-to (Ok x) after changed due ok e = ok ∙ e
+changed-to (Err x) after changed due ok e = ok

@@ -12,11 +12,13 @@ mod id;
 mod literal;
 mod memory;
 mod name;
+mod name_pool;
 mod numbered;
 mod place;
 mod properties;
 mod sequence;
 mod sets;
+mod shared;
 mod steps;
 mod text;
 mod walk;
@@ -28,6 +30,7 @@ pub use id::{Id, LARGEST_ID};
 pub use literal::{Literal, literal_cmp};
 pub use memory::Memory;
 pub use name::{Name, NameList, is_reserved, is_word_form};
+pub use name_pool::NamePool;
 pub use numbered::Numbered;
 pub use place::{
     BasicNo, BlockNo, Direction, LabelGroupList, MakeKind, NameAt, Place, Sym, ViewNo,

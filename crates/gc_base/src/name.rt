@@ -16,12 +16,13 @@ use std::alloc::Global;
 use std::cmp::Ordering;
 use std::hash::{Hash, Hasher};
 use std::marker::Model;
+use std::rc::Rc;
 
 /// Bytes of the form of a word: an ASCII letter, then letters, digits and `_`. Contracts see a name
-/// as its bytes, by which it is compared.
+/// as its bytes, by which it is compared. A copy shares them, and takes no memory.
 #[derive(Debug, Drop)]
 pub struct Name {
-    bytes: Vec<u8>,
+    bytes: Rc<Vec<u8>>,
 }
 
 impl Model for Name {
@@ -30,9 +31,9 @@ impl Model for Name {
 
     ghost Value = { List ℕ };
 
-    ghost view = { λ n. n.bytes.items };
+    ghost view = { λ n. n.bytes.value.items };
 
-    ghost invariant = { λ n. is_word n.bytes.items ≡ true };
+    ghost invariant = { λ n. is_word n.bytes.value.items ≡ true };
 }
 
 /// A list of names.
@@ -46,7 +47,7 @@ impl Name {
         if !is_word_form(bytes) {
             return Ok(None);
         }
-        let bytes = bytes.to_vec(alloc)?;
+        let bytes = Rc::new(alloc, bytes.to_vec(alloc)?)?;
         Ok(Some(Name { bytes }))
     }
 
@@ -79,7 +80,7 @@ fn are_word_parts(bytes: &[u8]) -> bool
 
 impl Duplicate for Name {
     fn copy(&self) -> Result<Name, Memory> {
-        let bytes = self.bytes().to_vec(*self.bytes.allocator())?;
+        let bytes = self.bytes.clone()?;
         Ok(Name { bytes })
     }
 }

@@ -6,11 +6,11 @@ ghost use Rattle.gc_base.specs.Places.{IsPlaceOrGap};
 ghost use Rattle.gc_base.specs.PropertyLists.{AreProperties, IsProperty, put, values_of, property_order};
 ghost use Rattle.gc_base.specs.Ascending.{with_item, without_item};
 
-use crate::duplicate::{Duplicate, copies};
-use crate::growth::insert_at;
+use crate::duplicate::Duplicate;
 use crate::memory::Memory;
 use crate::name::Name;
 use crate::sets::ValueSet;
+use crate::shared::Shared;
 use std::alloc::Global;
 use std::marker::Model;
 
@@ -22,10 +22,11 @@ pub struct Property {
 }
 
 /// Names with their sets of values. Contracts see the list of the properties, which ascends by name;
-/// a property that is listed has a value.
+/// a property that is listed has a value. A copy shares them until it changes, and takes no memory.
 #[derive(Debug, Drop)]
 pub struct Properties {
-    entries: Vec<Property>,
+    alloc: Global,
+    entries: Shared<Property>,
 }
 
 impl Model for Properties {
@@ -36,9 +37,9 @@ impl Model for Properties {
 
     ghost use Rattle.gc_base.specs.PropertyLists.{AreProperties};
 
-    ghost view = { λ p. p.entries.items };
+    ghost view = { λ p. p.entries };
 
-    ghost invariant = { λ p. AreProperties p.entries.items };
+    ghost invariant = { λ p. AreProperties p.entries };
 }
 
 impl Properties {
@@ -47,7 +48,8 @@ impl Properties {
         ensures { result ≡ [] }
     {
         Properties {
-            entries: Vec::new(alloc),
+            alloc,
+            entries: Shared::empty(),
         }
     }
 
@@ -55,7 +57,7 @@ impl Properties {
     pub fn len(&self) -> usize
         ensures { result ≡ length self.now }
     {
-        self.entries.len()
+        self.entries.as_slice().len()
     }
 
     /// All properties, by name.
@@ -63,7 +65,7 @@ impl Properties {
         ensures properties { result.now ≡ self.now }
         ensures valid { AreProperties self.now }
     {
-        &self.entries
+        self.entries.as_slice()
     }
 
     /// The name at a place below the length.
@@ -71,7 +73,7 @@ impl Properties {
         requires { i < length self.now }
         ensures { (p : Property) × (slice_get self.now i ≡ Some p) × (result.now ≡ p.name) }
     {
-        &self.entries[i].name
+        &self.entries.as_slice()[i].name
     }
 
     /// The values at a place below the length.
@@ -79,7 +81,7 @@ impl Properties {
         requires { i < length self.now }
         ensures { (p : Property) × (slice_get self.now i ≡ Some p) × (result.now ≡ p.values) }
     {
-        &self.entries[i].values
+        &self.entries.as_slice()[i].values
     }
 
     /// The values of a name, or `None` exactly where the name is not there.
@@ -87,7 +89,7 @@ impl Properties {
         ensures { option_copied result ≡ values_of self.now name.now }
     {
         match self.search(name) {
-            Ok(place) => Some(&self.entries[place].values),
+            Ok(place) => Some(&self.entries.as_slice()[place].values),
             Err(_) => None,
         }
     }
@@ -98,8 +100,7 @@ impl Properties {
         ensures err { OnErr result (self.new ≡ self.old) }
     {
         if values.len() == 0 {
-            self.take_out(&name);
-            return Ok(());
+            return self.take_out(&name);
         }
         let _bytes = name.bytes();
         let _values = values.as_slice();
@@ -113,15 +114,18 @@ impl Properties {
         ensures { IsPlaceOrGap (λ p. text_order p.name name.now) self.now result }
     {
         self.entries
+            .as_slice()
             .binary_search_by(|property| property.name.cmp(name))
     }
 
     // Takes a name out, if it is there.
-    fn take_out(&mut self, name: &Name)
-        ensures { self.new ≡ without_item property_order self.old (record { name = name.now; values = [] }) }
+    fn take_out(&mut self, name: &Name) -> Result<(), Memory>
+        ensures ok { OnOk result (self.new ≡ without_item property_order self.old (record { name = name.now; values = [] })) }
+        ensures err { OnErr result (self.new ≡ self.old) }
     {
-        if let Ok(place) = self.search(name) {
-            let _removed = self.entries.remove(place);
+        match self.search(name) {
+            Ok(place) => self.entries.remove(self.alloc, place),
+            Err(_) => Ok(()),
         }
     }
 
@@ -132,10 +136,9 @@ impl Properties {
         ensures err { OnErr result (self.new ≡ self.old) }
     {
         match self.search(&property.name) {
-            Ok(place) => self.entries[place] = property,
-            Err(place) => insert_at(&mut self.entries, place, property)?,
+            Ok(place) => self.entries.replace(self.alloc, place, property),
+            Err(place) => self.entries.insert(self.alloc, place, property),
         }
-        Ok(())
     }
 }
 
@@ -150,7 +153,10 @@ impl Duplicate for Property {
 
 impl Duplicate for Properties {
     fn copy(&self) -> Result<Properties, Memory> {
-        let entries = copies(*self.entries.allocator(), self.as_slice())?;
-        Ok(Properties { entries })
+        let entries = self.entries.share()?;
+        Ok(Properties {
+            alloc: self.alloc,
+            entries,
+        })
     }
 }
