@@ -1,16 +1,34 @@
-use Rattle.std.proofs.Common.{ap, ◌∙◌, ◌==◌, subst}
+use Rattle.std.proofs.Common.{ap, sym, ◌∙◌, ◌==◌, subst}
 use Rattle.std.specs.List.{find}
+use Rattle.std.specs.Option.{option_copied}
 use Rattle.std.specs.Ordering.{nat_cmp, on}
 use Rattle.gc_base.specs.Ascending.{Ascends}
-use Rattle.gc_ppg.proofs.Collecting.{in_order-ascends, lookup-found}
+use Rattle.gc_ppg.proofs.Collecting.{in_order-ascends, found-other, found-ascending}
 use Rattle.gc_ppg.proofs.by_id.ById.get.Goals as goal
 
-pub returns-clause-element : goal.returns-clause-element
-returns-clause-element g c =
+pub returns-in-Some-clause-element : goal.returns-in-Some-clause-element
+returns-in-Some-clause-element g c =
     let key = g.T.Element.id_of in
-    c.get.ensures.value ∙ (lookup-found key c.self.inside.entries.entries c.args.id c.self.invariant ∙ ap (λ xs. find (λ x. key x == c.args.id) xs) c.self.view_is)
+    let inside = c.self.inside in
+    found-other key inside.ascending.items c.self.invariant.0 inside.others.entries c.args.id c.in-Some.element.now c.self.invariant.1 c.in-Some.ensures.value
+    ∙ ap (λ xs. find (λ x. key x == c.args.id) xs) c.self.view_is
 
-pub returns-clause-ascends : goal.returns-clause-ascends
-returns-clause-ascends g c =
+pub returns-in-None-clause-element : goal.returns-in-None-clause-element
+returns-in-None-clause-element g c =
     let key = g.T.Element.id_of in
-    subst (Ascends (on key nat_cmp)) c.self.view_is (in_order-ascends key c.self.inside.entries.entries)
+    let inside = c.self.inside in
+    found-ascending key inside.ascending.items c.self.invariant.0 inside.others.entries c.args.id (option_copied c.find.result) c.self.invariant.1 c.in-None.ensures.value
+    (c.find.ensures ∙ ap (λ xs. find (λ x. key x == c.args.id) xs) c.deref.ensures.value)
+    ∙ ap (λ xs. find (λ x. key x == c.args.id) xs) c.self.view_is
+
+pub returns-in-Some-clause-ascends : goal.returns-in-Some-clause-ascends
+returns-in-Some-clause-ascends g c =
+    let key = g.T.Element.id_of in
+    let inside = c.self.inside in
+    subst (Ascends (on key nat_cmp)) c.self.view_is (in_order-ascends key inside.ascending.items c.self.invariant.0 inside.others.entries)
+
+pub returns-in-None-clause-ascends : goal.returns-in-None-clause-ascends
+returns-in-None-clause-ascends g c =
+    let key = g.T.Element.id_of in
+    let inside = c.self.inside in
+    subst (Ascends (on key nat_cmp)) c.self.view_is (in_order-ascends key inside.ascending.items c.self.invariant.0 inside.others.entries)

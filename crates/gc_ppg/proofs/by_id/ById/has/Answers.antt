@@ -1,9 +1,8 @@
-use Rattle.std.proofs.Common.{ap, ◌∙◌, map}
-use Rattle.gc_spec.specs.PropertyGraph.{is_among}
-use Rattle.gc_ppg.proofs.Collecting.{lookup-is_among}
+use Rattle.std.proofs.Common.{◌∙◌}
+use Rattle.std.specs.Option.{option_copied}
+use Rattle.gc_ppg.proofs.Collecting.{copied_some, found-has}
 use Rattle.gc_ppg.proofs.by_id.ById.has.Goals as goal
 
 pub returns : goal.returns
 returns g c =
-    let key = g.T.Element.id_of in
-    c.contains_key.ensures ∙ (lookup-is_among key c.self.inside.entries.entries c.args.id c.self.invariant ∙ ap (λ xs. is_among (map key xs) c.args.id) c.self.view_is)
+    c.is_some.ensures ∙ (copied_some c.get.result ∙ found-has g.T.Element.id_of (option_copied c.get.result) c.args.self.now c.args.id c.get.ensures.element)

@@ -1,5 +1,5 @@
 use Rattle.std.proofs.Common.{◌≡◌, ◌++◌}
-use Rattle.gc_ppg.proofs.by_id.ById.into_vec.Given as goal
+use Rattle.gc_ppg.proofs.by_id.sorted.Given as goal
 
 -- the elements so far and those that are left are all
 abbrev pub invariant-loop-element : goal.invariant-loop-element
