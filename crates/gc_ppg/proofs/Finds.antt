@@ -1,8 +1,9 @@
 -- What a search by identity finds.
-use Rattle.std.proofs.Common.{◌≡◌, ℕ, ◌<◌, ◌==◌, nat_lt, true, List, length, get_or, refl, sym, ap, ◌∙◌, Some, None, Ok, Err, arith}
+use Rattle.std.proofs.Common.{◌≡◌, Bor, Option, [], ◌∷◌, map, zero, suc, ℕ, ◌<◌, ◌==◌, nat_lt, true, List, length, get_or, refl, sym, ap, ◌∙◌, Some, None, Ok, Err, arith}
 use Rattle.std.specs.Cmp.{nat_cmp_is, nat_cmp_total, unsigned_tied}
 use Rattle.std.specs.declared.cmp.Ordering.TheVariants.{Equal}
-use Rattle.std.specs.List.{find}
+use Rattle.std.specs.List.{find, slice_get}
+use Rattle.std.specs.Option.{option_copied, option_map}
 use Rattle.std.specs.List.Sorted.{IsSearchInRange, IsBinarySearchResult}
 use Rattle.std.specs.Ordering.{nat_cmp, on, is_eq}
 use Rattle.std.proofs.lemmas.Bool.Decides.{nat_tests}
@@ -10,6 +11,17 @@ use Rattle.std.proofs.lemmas.List.{get_or_default}
 use Rattle.std.proofs.lemmas.Option.{slice_get_read}
 use Rattle.gc_base.specs.Ascending.{Ascends}
 use Rattle.gc_base.proofs.Search.{searched}
+
+-- what a reference reads
+pub copied_map : {X : Type 0} (o : Option (Bor X)) → option_copied o ≡ option_map (λ x. x.now) o
+copied_map (Some x) = refl
+copied_map None = refl
+
+-- an item of a list, mapped
+pub get_map : {X Y : Type 0} (f : X → Y) (xs : List X) (i : ℕ) → option_map f (slice_get xs i) ≡ slice_get (map f xs) i
+get_map f [] i = refl
+get_map f (x ∷ xs) zero = refl
+get_map f (x ∷ xs) (suc i) = get_map f xs i
 
 is_below : (a b : ℕ) → true ≡ nat_lt a b → a < b
 is_below a b h = grind (arith, nat_tests)

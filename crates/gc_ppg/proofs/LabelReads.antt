@@ -1,15 +1,17 @@
 -- Elements read through the places of their labels.
-use Rattle.std.proofs.Common.{◌≡◌, ℕ, zero, suc, ◌+◌, true, false, cond, List, [], ◌∷◌, length, drop, map, refl, ap}
+use Rattle.std.proofs.Common.{◌≡◌, ℕ, zero, suc, ◌+◌, true, false, cond, List, [], ◌∷◌, length, drop, map, refl, ap, subst, Option, Some, IfSome}
 use Rattle.std.specs.List.{filter, slice_get}
 use Rattle.std.specs.Option.{option_and_then}
 use Rattle.gc_base.specs.Ascending.{has}
 use Rattle.gc_base.specs.Literals.{text_order}
 use Rattle.gc_spec.specs.PropertyGraph.{PropertyGraph}
-use Rattle.gc_ppg.specs.LabelPlaces.{places_from}
+use Rattle.gc_ppg.specs.LabelPlaces.{places_from, places_of}
 use Rattle.gc_ppg.specs.LabelReads.{kind_ids, labelled_places}
 use Rattle.gc_ppg.specs.LabelledIds.{labelled_ids}
 use Rattle.gc_ppg.specs.declared.shape.Kind.{Kind}
 use Rattle.gc_ppg.specs.declared.shape.Kind.TheVariants.{Node, Edge, Path}
+use Rattle.gc_ppg.specs.Indexed.{IsIndex, labels_in}
+use Rattle.gc_ppg.specs.declared.index.GraphIndex.{GraphIndex}
 use Rattle.gc_ppg.proofs.EndPlaces.{head_at}
 
 module _ {X : Type 0} (id_of : X → ℕ) (labels : X → List (List ℕ)) (label : List ℕ) where
@@ -56,3 +58,13 @@ pub read_of_kind : (g : PropertyGraph) (kind : Kind) (label : List ℕ) (i : ℕ
 read_of_kind g Node label i = read_places (λ n. n.id) (λ n. n.labels) label (kind_ids g Node) 0 g.nodes i refl
 read_of_kind g Edge label i = read_places (λ e. e.id) (λ e. e.labels) label (kind_ids g Edge) 0 g.edges i refl
 read_of_kind g Path label i = read_places (λ p. p.id) (λ p. p.labels) label (kind_ids g Path) 0 g.paths i refl
+
+-- an index gives for each label the places of the elements of a kind that have it
+pub places_of_kind : (g : PropertyGraph) (index : GraphIndex) (kind : Kind) (label : List ℕ) → IsIndex g index → places_of (labels_in index kind) label ≡ labelled_places g kind label
+places_of_kind g index Node label h = h.node_labels label
+places_of_kind g index Edge label h = h.edge_labels label
+places_of_kind g index Path label h = h.path_labels label
+
+-- the index that a graph has
+pub index_of : (g h : PropertyGraph) (o : Option GraphIndex) (index : GraphIndex) → IfSome o (IsIndex g) → o ≡ Some index → g ≡ h → IsIndex h index
+index_of g h o index is_index some same = subst (λ k. IsIndex k index) same (subst (λ p. IfSome p (IsIndex g)) some is_index)

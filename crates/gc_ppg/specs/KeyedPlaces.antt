@@ -1,12 +1,17 @@
 -- Places of edges by their ends.
-use Rattle.std.specs.Prelude.{◌≡◌, ℕ, ◌+◌, ◌==◌, List, [], ◌∷◌}
+use Rattle.std.specs.Prelude.{◌≡◌, ℕ, ◌+◌, ◌==◌, List, [], ◌∷◌, Option, slice_get}
 use Rattle.std.specs.List.{filter}
+use Rattle.std.specs.Option.{option_map}
 use Rattle.gc_spec.specs.PropertyGraph.{Edge}
 use Rattle.gc_ppg.specs.declared.places.PlaceAt.{PlaceAt}
 
 -- the entries of a key
 abbrev pub at_key : ℕ → List PlaceAt → List PlaceAt
 at_key key entries = filter (λ e. e.key == key) entries
+
+-- the i-th place of a key
+abbrev pub place_in : List PlaceAt → (key i : ℕ) → Option ℕ
+place_in places key i = option_map (λ e. e.place) (slice_get (at_key key places) i)
 
 -- each edge's end with the place of the edge, where the first has the place n
 abbrev pub ends_from : (Edge → ℕ) → ℕ → List Edge → List PlaceAt

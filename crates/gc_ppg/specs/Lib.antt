@@ -1,6 +1,7 @@
 pub mod Built
 pub mod Collected
 pub mod FreeIds
+pub mod Indexed
 pub mod KeyedPlaces
 pub mod LabelPlaces
 pub mod LabelReads

@@ -117,8 +117,15 @@ impl GraphBuilder {
         Ok(())
     }
 
-    /// The graph of all that was added.
+    /// The graph of all that was added, with an index.
     pub fn finish(self) -> Result<Graph, Memory>
+        ensures { IfOk result (λ g. g ≡ self) }
+    {
+        self.finish_plain()?.indexed()
+    }
+
+    /// The graph of all that was added, without an index.
+    pub fn finish_plain(self) -> Result<Graph, Memory>
         ensures { IfOk result (λ g. g ≡ self) }
     {
         let GraphBuilder {
@@ -130,7 +137,7 @@ impl GraphBuilder {
         let nodes = nodes.into_vec(alloc)?;
         let edges = edges.into_vec(alloc)?;
         let paths = paths.into_vec(alloc)?;
-        Graph::of_elements(alloc, nodes, edges, paths)
+        Ok(Graph::of_elements(nodes, edges, paths))
     }
 
     /// Whether an identity is in the builder.

@@ -141,10 +141,7 @@ fn put<T: Element + Drop>(all: &mut IndexMap<Id, T>, element: T) -> Result<(), M
 }
 
 // Elements by ascending identity.
-fn sorted<T: Element + Drop>(
-    alloc: Global,
-    collected: IndexMap<Id, T>,
-) -> Result<Vec<T>, Memory>
+fn sorted<T: Element + Drop>(alloc: Global, collected: IndexMap<Id, T>) -> Result<Vec<T>, Memory>
     requires { KeysAreIds T.id_of collected.entries }
     ensures { IfOk result (λ all. all.items ≡ in_order T.id_of [] collected.entries) }
 {

@@ -144,8 +144,11 @@ impl Shapes {
         ensures ids { IfOk result (λ ids. ids.items ≡ map (λ n. n.id) g.now.nodes) }
         ensures valid { IsGraph g.now }
     {
-        let nodes = g.nodes();
-        Ok(nodes.iter().map(|node| node.id).collect(alloc)?)
+        let mut ids = Vec::with_capacity(alloc, g.nodes().len())?;
+        for node in g.nodes() {
+            ids.push(node.id)?;
+        }
+        Ok(ids)
     }
 
     fn edges_of(alloc: Global, g: &Graph) -> Result<Vec<EdgeEnds>, Memory>

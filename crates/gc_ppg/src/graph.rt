@@ -1,34 +1,30 @@
 ghost use Rattle.std.specs.Prelude.{◌≡◌, ◌+◌, ◌<◌, ◌≤◌, ◌==◌, length, map, slice_get, Some, IfOk};
 ghost use Rattle.std.specs.List.{filter};
 ghost use Rattle.std.specs.Option.{option_copied, option_and_then};
+ghost use Rattle.gc_base.specs.Ascending.{has};
+ghost use Rattle.gc_base.specs.Literals.{text_order};
 ghost use Rattle.gc_spec.specs.PropertyGraph.{IsGraph, node_at, edge_at, path_at};
 ghost use Rattle.gc_ppg.specs.FreeIds.{IsFirstFree, IsLeastAbove};
 ghost use Rattle.gc_ppg.specs.Reads.{handed_out};
-ghost use Rattle.gc_ppg.specs.KeyedPlaces.{AreEnds};
 
 use crate::element::{EdgeInfo, NodeInfo, PathInfo};
-use crate::kind::Element;
-use crate::label_index::LabelIndex;
-use crate::places::{PlaceAt, Places};
+use crate::index::GraphIndex;
+use crate::kind::{Element, Labelled};
 use crate::search::find;
 use crate::shape::Kind;
 use gc_base::{Id, Memory, Name, Numbered, Steps, copies};
-use std::alloc::Global;
 use std::marker::Model;
 use std::sync::ledger::Ledger;
 
 /// A path property graph, valid by its type. Contracts see it as three lists of elements, each
-/// ascending by identity.
+/// ascending by identity. With an index, edges at a node and elements with a label are read at once;
+/// without one, as in a graph that is only printed, all elements are gone over.
 #[derive(Debug, Drop)]
 pub struct Graph {
     nodes: Vec<NodeInfo>,
     edges: Vec<EdgeInfo>,
     paths: Vec<PathInfo>,
-    leaving: Places,
-    coming: Places,
-    node_labels: LabelIndex,
-    edge_labels: LabelIndex,
-    path_labels: LabelIndex,
+    index: Option<GraphIndex>,
 }
 
 /// A list of graphs, which are named by their numbers.
@@ -41,46 +37,52 @@ impl Model for Graph {
 
     ghost view = { λ g. record { nodes = g.nodes.items; edges = g.edges.items; paths = g.paths.items } };
 
-    ghost use Rattle.gc_ppg.specs.KeyedPlaces.{AreEnds};
-    ghost use Rattle.gc_ppg.specs.LabelPlaces.{IsLabelIndex};
+    ghost use Rattle.std.specs.Prelude.{IfSome};
+    ghost use Rattle.gc_ppg.specs.Indexed.{IsIndex};
 
     ghost invariant = { λ g.
         IsGraph (record { nodes = g.nodes.items; edges = g.edges.items; paths = g.paths.items })
-        × AreEnds (λ e. e.from) g.edges.items g.leaving
-        × AreEnds (λ e. e.to) g.edges.items g.coming
-        × IsLabelIndex (λ n. n.labels) g.nodes.items g.node_labels
-        × IsLabelIndex (λ e. e.labels) g.edges.items g.edge_labels
-        × IsLabelIndex (λ p. p.labels) g.paths.items g.path_labels };
+        × IfSome g.index (IsIndex (record { nodes = g.nodes.items; edges = g.edges.items; paths = g.paths.items })) };
 }
 
 impl Graph {
     ghost use Rattle.gc_ppg.specs.LabelledIds.{labelled_ids};
-    ghost use Rattle.gc_ppg.specs.LabelReads.{kind_ids, labelled_places};
+    ghost use Rattle.gc_ppg.specs.LabelReads.{kind_ids};
 
-    // The graph of these elements.
+    // The graph of these elements, without an index.
     pub(crate) fn of_elements(
-        alloc: Global,
         nodes: Vec<NodeInfo>,
         edges: Vec<EdgeInfo>,
         paths: Vec<PathInfo>,
-    ) -> Result<Graph, Memory>
+    ) -> Graph
         requires { IsGraph (record { nodes = nodes.items; edges = edges.items; paths = paths.items }) }
-        ensures { IfOk result (λ g. g ≡ record { nodes = nodes.items; edges = edges.items; paths = paths.items }) }
+        ensures { result ≡ record { nodes = nodes.items; edges = edges.items; paths = paths.items } }
     {
-        let leaving = by_source(alloc, &edges)?;
-        let coming = by_target(alloc, &edges)?;
-        let node_labels = LabelIndex::of(alloc, &nodes)?;
-        let edge_labels = LabelIndex::of(alloc, &edges)?;
-        let path_labels = LabelIndex::of(alloc, &paths)?;
+        Graph {
+            nodes,
+            edges,
+            paths,
+            index: None,
+        }
+    }
+
+    /// The same graph with an index, as one needs in which patterns are matched.
+    pub fn indexed(self) -> Result<Graph, Memory>
+        ensures { IfOk result (λ g. g ≡ self) }
+    {
+        let alloc = *self.nodes.allocator();
+        let index = GraphIndex::of(alloc, self.nodes(), self.edges(), self.paths())?;
+        let Graph {
+            nodes,
+            edges,
+            paths,
+            index: _,
+        } = self;
         Ok(Graph {
             nodes,
             edges,
             paths,
-            leaving,
-            coming,
-            node_labels,
-            edge_labels,
-            path_labels,
+            index: Some(index),
         })
     }
 
@@ -169,8 +171,7 @@ impl Graph {
         ensures edge { option_copied result ≡ slice_get (filter (λ e. e.from == node) self.now.edges) i }
         ensures step { steps.new ≡ steps.old + handed_out result }
     {
-        let place = self.leaving.at(node.get(), i);
-        counted(self.edge_at(place), steps)
+        counted(self.nth_out(node, i), steps)
     }
 
     /// The i-th edge that comes to a node, by ascending identity, or `None` exactly where there is
@@ -179,8 +180,7 @@ impl Graph {
         ensures edge { option_copied result ≡ slice_get (filter (λ e. e.to == node) self.now.edges) i }
         ensures step { steps.new ≡ steps.old + handed_out result }
     {
-        let place = self.coming.at(node.get(), i);
-        counted(self.edge_at(place), steps)
+        counted(self.nth_in(node, i), steps)
     }
 
     /// The first identity that is above all of the graph, or 0 where it has no element. It is at most
@@ -195,7 +195,7 @@ impl Graph {
         above(edges, self.paths())
     }
 
-    /// A copy of the graph. Each element takes one step.
+    /// A copy of the graph, without an index. Each element takes one step.
     pub fn copy<L: Ledger>(&self, steps: &mut Steps<L>) -> Result<Graph, Memory>
         ensures same { IfOk result (λ g. g ≡ self.now) }
         ensures step { steps.new ≡ steps.old + (length self.now.nodes + length self.now.edges + length self.now.paths) }
@@ -207,14 +207,17 @@ impl Graph {
         let nodes = copies(alloc, self.nodes())?;
         let edges = copies(alloc, self.edges())?;
         let paths = copies(alloc, self.paths())?;
-        Graph::of_elements(alloc, nodes, edges, paths)
+        Ok(Graph::of_elements(nodes, edges, paths))
     }
 
     /// How many elements of a kind have a label.
     pub fn label_count(&self, kind: Kind, label: &Name) -> usize
         ensures { result ≡ length (labelled_ids self.now kind label.now) }
     {
-        self.places_with(kind, label).len()
+        match &self.index {
+            Some(index) => index.labelled(kind, label).len(),
+            None => self.counted_with(kind, label),
+        }
     }
 
     /// The i-th element of a kind that has a label, by ascending identity, or `None` exactly where
@@ -236,23 +239,58 @@ impl Graph {
         found
     }
 
+    // The i-th element of a kind that has a label.
     fn nth_with_label(&self, kind: Kind, label: &Name, i: usize) -> Option<Id>
         ensures { result ≡ slice_get (labelled_ids self.now kind label.now) i }
     {
-        match nth_place(self.places_with(kind, label), i) {
-            Some(place) => self.id_at(kind, place),
-            None => None,
+        match &self.index {
+            Some(index) => match nth_place(index.labelled(kind, label), i) {
+                Some(place) => self.id_at(kind, place),
+                None => None,
+            },
+            None => self.gone_over_with(kind, label, i),
         }
     }
 
-    // The places of the elements of a kind that have a label, ascending.
-    fn places_with(&self, kind: Kind, label: &Name) -> &[usize]
-        ensures { result.now ≡ labelled_places self.now kind label.now }
+    // How many elements of a kind have a label, by going over all.
+    fn counted_with(&self, kind: Kind, label: &Name) -> usize
+        ensures { result ≡ length (labelled_ids self.now kind label.now) }
     {
         match kind {
-            Kind::Node => self.node_labels.places(label),
-            Kind::Edge => self.edge_labels.places(label),
-            Kind::Path => self.path_labels.places(label),
+            Kind::Node => count_with(&self.nodes, label),
+            Kind::Edge => count_with(&self.edges, label),
+            Kind::Path => count_with(&self.paths, label),
+        }
+    }
+
+    // The i-th element of a kind that has a label, by going over all.
+    fn gone_over_with(&self, kind: Kind, label: &Name, i: usize) -> Option<Id>
+        ensures { result ≡ slice_get (labelled_ids self.now kind label.now) i }
+    {
+        match kind {
+            Kind::Node => nth_with(&self.nodes, label, i),
+            Kind::Edge => nth_with(&self.edges, label, i),
+            Kind::Path => nth_with(&self.paths, label, i),
+        }
+    }
+
+    // The i-th edge that leaves a node.
+    fn nth_out(&self, node: Id, i: usize) -> Option<&EdgeInfo>
+        ensures { option_copied result ≡ slice_get (filter (λ e. e.from == node) self.now.edges) i }
+    {
+        match &self.index {
+            Some(index) => self.edge_at(index.leaving(node, i)),
+            None => nth_leaving(&self.edges, node, i),
+        }
+    }
+
+    // The i-th edge that comes to a node.
+    fn nth_in(&self, node: Id, i: usize) -> Option<&EdgeInfo>
+        ensures { option_copied result ≡ slice_get (filter (λ e. e.to == node) self.now.edges) i }
+    {
+        match &self.index {
+            Some(index) => self.edge_at(index.coming(node, i)),
+            None => nth_coming(&self.edges, node, i),
         }
     }
 
@@ -342,28 +380,48 @@ fn id_of<T: Element>(elements: &[T], place: usize) -> Option<Id>
     }
 }
 
-// The places of edges by their sources.
-fn by_source(alloc: Global, edges: &[EdgeInfo]) -> Result<Places, Memory>
-    ensures { IfOk result (AreEnds (λ e. e.from) edges.now) }
+// The i-th of those edges that leave a node.
+fn nth_leaving(edges: &[EdgeInfo], node: Id, i: usize) -> Option<&EdgeInfo>
+    ensures { option_copied result ≡ slice_get (filter (λ e. e.from == node) edges.now) i }
 {
-    let mut places = Vec::with_capacity(alloc, edges.len())?;
-    for (place, edge) in edges.iter().enumerate() {
-        let key = edge.from.get();
-        places.push(PlaceAt { key, place })?;
-    }
-    Places::of(places)
+    edges.iter().filter(|edge| edge.from == node).nth(i)
 }
 
-// The places of edges by their targets.
-fn by_target(alloc: Global, edges: &[EdgeInfo]) -> Result<Places, Memory>
-    ensures { IfOk result (AreEnds (λ e. e.to) edges.now) }
+// The i-th of those edges that come to a node.
+fn nth_coming(edges: &[EdgeInfo], node: Id, i: usize) -> Option<&EdgeInfo>
+    ensures { option_copied result ≡ slice_get (filter (λ e. e.to == node) edges.now) i }
 {
-    let mut places = Vec::with_capacity(alloc, edges.len())?;
-    for (place, edge) in edges.iter().enumerate() {
-        let key = edge.to.get();
-        places.push(PlaceAt { key, place })?;
+    edges.iter().filter(|edge| edge.to == node).nth(i)
+}
+
+// How many elements have a label.
+fn count_with<T: Labelled>(elements: &[T], label: &Name) -> usize
+    ensures { result ≡ length (filter (λ x. has text_order (T.labels_of x) label.now) elements.now) }
+{
+    elements
+        .iter()
+        .filter(|element| element.labels().contains(label))
+        .count()
+}
+
+// The identity of the i-th element that has a label.
+fn nth_with<T: Labelled>(elements: &[T], label: &Name, i: usize) -> Option<Id>
+    ensures { result ≡ slice_get (map T.id_of (filter (λ x. has text_order (T.labels_of x) label.now) elements.now)) i }
+{
+    match labelled(elements, label, i) {
+        Some(element) => Some(element.id()),
+        None => None,
     }
-    Places::of(places)
+}
+
+// The i-th element that has a label.
+fn labelled<'a, T: Labelled>(elements: &'a [T], label: &Name, i: usize) -> Option<&'a T>
+    ensures { option_copied result ≡ slice_get (filter (λ x. has text_order (T.labels_of x) label.now) elements.now) i }
+{
+    elements
+        .iter()
+        .filter(|element| element.labels().contains(label))
+        .nth(i)
 }
 
 // An answer, with one step where an element is handed out.

@@ -8,6 +8,7 @@ mod by_id;
 mod coherence;
 mod element;
 mod graph;
+mod index;
 mod kind;
 mod label_index;
 mod laws;

@@ -10,7 +10,8 @@ use gc_catalog::{AddRefusal, Catalog};
 use gc_ppg::Graph;
 use gc_sorts::Checked;
 
-/// Puts a graph behind those of a catalog, under its name where that is a word which no graph has.
+/// Puts a graph behind those of a catalog, under its name where that is a word which no graph has. Patterns will be
+/// matched in it, so it gets its index.
 pub(crate) fn stand_named(
     checked: &Checked,
     name: NameAt,
@@ -22,6 +23,7 @@ pub(crate) fn stand_named(
     ensures added { OnOk result (catalog.new ≡ with_named catalog.old (free_word catalog.old.names (named checked.now.file.names name).name) graph) }
     ensures same { OnErr result (catalog.new ≡ catalog.old) }
 {
+    let graph = graph.indexed()?;
     match free_word(checked, name, catalog)? {
         Some(word) => match catalog.add(word, graph) {
             Ok(_) => Ok(()),

@@ -23,7 +23,7 @@ pub(crate) fn assemble(
     add_nodes(&mut builder, nodes)?;
     add_edges(&mut builder, edges)?;
     add_paths(&mut builder, paths)?;
-    builder.finish()
+    builder.finish_plain()
 }
 
 // Adds nodes whose identities are new.

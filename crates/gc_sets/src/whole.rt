@@ -29,7 +29,7 @@ pub(crate) fn assembled(
         return Ok(None);
     }
     add_paths(&mut builder, paths)?;
-    let graph = builder.finish()?;
+    let graph = builder.finish_plain()?;
     let _valid = graph.node_count();
     Ok(Some(graph))
 }

@@ -1,4 +1,4 @@
-use Rattle.std.proofs.Common.{◌≡◌, true, nat_lt, ap, sym, ◌∙◌}
+use Rattle.std.proofs.Common.{◌≡◌, true, nat_lt, sym, ◌∙◌}
 use Rattle.gc_ppg.proofs.Collecting.{below_last, less_by}
 use Rattle.gc_ppg.proofs.by_id.is_above.Goals as goal
 

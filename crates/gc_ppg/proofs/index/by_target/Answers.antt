@@ -1,7 +1,7 @@
 use Rattle.std.proofs.Common.{arith}
 use Rattle.std.proofs.lemmas.Result.{IfOk-weaker}
 use Rattle.gc_ppg.proofs.EndPlaces.{ends_kept}
-use Rattle.gc_ppg.proofs.graph.by_target.Goals as goal
+use Rattle.gc_ppg.proofs.index.by_target.Goals as goal
 
 pub returns : goal.returns
 returns c =

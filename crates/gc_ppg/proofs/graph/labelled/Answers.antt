@@ -1,0 +1,13 @@
+use Rattle.std.proofs.Common.{rules, tests, ◌∙◌}
+use Rattle.std.proofs.lemmas.Iterator.{YieldsList-from_slice}
+use Rattle.std.proofs.lemmas.Iterator.Consumers.{YieldsList-from_filter, nth_from_yields_List}
+use Rattle.gc_base.specs.Ascending.{has}
+use Rattle.gc_base.specs.Literals.{text_order}
+use Rattle.gc_ppg.proofs.Finds.{copied_map}
+use Rattle.gc_ppg.proofs.graph.labelled.Goals as goal
+
+pub returns : goal.returns
+returns g c =
+    copied_map c.nth.result
+    ∙ nth_from_yields_List c.nth.result c.nth.new.self c.args.i c.nth.ensures.ran
+    (YieldsList-from_filter _ (λ x. has text_order (g.T.Labelled.labels_of x) c.args.label.now) (YieldsList-from_slice c.args.elements.now (search rules)) c.filter.ensures.closure (λ x r q k. search (rules, tests)))

@@ -1,0 +1,100 @@
+ghost use Rattle.std.specs.Prelude.{◌≡◌, ◌==◌, ℕ, List, IfOk, slice_get};
+ghost use Rattle.std.specs.List.{filter};
+ghost use Rattle.std.specs.Option.{option_and_then};
+ghost use Rattle.gc_ppg.specs.Indexed.{IsIndex};
+ghost use Rattle.gc_ppg.specs.KeyedPlaces.{AreEnds};
+
+use crate::element::{EdgeInfo, NodeInfo, PathInfo};
+use crate::label_index::LabelIndex;
+use crate::places::{PlaceAt, Places};
+use crate::shape::Kind;
+use gc_base::{Id, Memory, Name};
+use std::alloc::Global;
+
+// Where the edges at each node and the elements with each label stand in a graph.
+#[derive(Debug, Drop)]
+pub(crate) struct GraphIndex {
+    leaving: Places,
+    coming: Places,
+    node_labels: LabelIndex,
+    edge_labels: LabelIndex,
+    path_labels: LabelIndex,
+}
+
+impl GraphIndex {
+    ghost use Rattle.gc_ppg.specs.Indexed.{labels_in};
+    ghost use Rattle.gc_ppg.specs.KeyedPlaces.{place_in};
+    ghost use Rattle.gc_ppg.specs.LabelPlaces.{places_of};
+
+    // The index of a graph of these elements.
+    pub(crate) fn of(
+        alloc: Global,
+        nodes: &[NodeInfo],
+        edges: &[EdgeInfo],
+        paths: &[PathInfo],
+    ) -> Result<GraphIndex, Memory>
+        ensures { IfOk result (IsIndex (record { nodes = nodes.now; edges = edges.now; paths = paths.now })) }
+    {
+        let leaving = by_source(alloc, edges)?;
+        let coming = by_target(alloc, edges)?;
+        let node_labels = LabelIndex::of(alloc, nodes)?;
+        let edge_labels = LabelIndex::of(alloc, edges)?;
+        let path_labels = LabelIndex::of(alloc, paths)?;
+        Ok(GraphIndex {
+            leaving,
+            coming,
+            node_labels,
+            edge_labels,
+            path_labels,
+        })
+    }
+
+    // The place of the i-th edge that leaves a node.
+    pub(crate) fn leaving(&self, node: Id, i: usize) -> Option<usize>
+        ensures { result ≡ place_in self.now.leaving node i }
+    {
+        self.leaving.at(node.get(), i)
+    }
+
+    // The place of the i-th edge that comes to a node.
+    pub(crate) fn coming(&self, node: Id, i: usize) -> Option<usize>
+        ensures { result ≡ place_in self.now.coming node i }
+    {
+        self.coming.at(node.get(), i)
+    }
+
+    // The places of the elements of a kind that have a label, ascending.
+    pub(crate) fn labelled(&self, kind: Kind, label: &Name) -> &[usize]
+        ensures { result.now ≡ places_of (labels_in self.now kind) label.now }
+    {
+        match kind {
+            Kind::Node => self.node_labels.places(label),
+            Kind::Edge => self.edge_labels.places(label),
+            Kind::Path => self.path_labels.places(label),
+        }
+    }
+}
+
+// The places of edges by their sources.
+fn by_source(alloc: Global, edges: &[EdgeInfo]) -> Result<Places, Memory>
+    ensures { IfOk result (AreEnds (λ e. e.from) edges.now) }
+{
+    let mut places = Vec::with_capacity(alloc, edges.len())?;
+    for (place, edge) in edges.iter().enumerate() {
+        let key = edge.from.get();
+        places.push(PlaceAt { key, place })?;
+    }
+    Places::of(places)
+}
+
+// The places of edges by their targets.
+fn by_target(alloc: Global, edges: &[EdgeInfo]) -> Result<Places, Memory>
+    ensures { IfOk result (AreEnds (λ e. e.to) edges.now) }
+{
+    let mut places = Vec::with_capacity(alloc, edges.len())?;
+    for (place, edge) in edges.iter().enumerate() {
+        let key = edge.to.get();
+        places.push(PlaceAt { key, place })?;
+    }
+    Places::of(places)
+}
