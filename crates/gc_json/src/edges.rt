@@ -10,20 +10,19 @@ use crate::element::Element;
 use crate::fault::{Failure, Fault};
 use crate::parts::{Parts, described, end_of, new_id, parts_of};
 use crate::values::number_in;
-use gc_base::Id;
+use gc_base::{Id, NamePool};
 use gc_ppg::{Coherence, EdgeInfo, GraphBuilder, Shape};
-use std::alloc::Global;
 
 // Adds the edge that a value is.
 pub(crate) fn add_edge(
-    alloc: Global,
+    names: &mut NamePool,
     builder: &mut GraphBuilder,
     seen: &Coherence,
     element: &Element,
 ) -> Result<(), Failure<Fault>>
     ensures { Gives (λ _. builder.new) (add_edge_of seen.now builder.old (element_seen element.now)) result }
 {
-    let edge = edge_of(alloc, builder, element)?;
+    let edge = edge_of(names, builder, element)?;
     if !seen.agrees(edge.id, &Shape::Edge(edge.from, edge.to)) {
         return Err(Failure::Refused(Fault::Incoherent(edge.id)));
     }
@@ -33,7 +32,7 @@ pub(crate) fn add_edge(
 
 // The edge that a value is in the graph so far.
 fn edge_of(
-    alloc: Global,
+    names: &mut NamePool,
     builder: &GraphBuilder,
     element: &Element,
 ) -> Result<EdgeInfo, Failure<Fault>>
@@ -43,12 +42,12 @@ fn edge_of(
 {
     let parts = parts_of(element)?;
     let (from, to) = end_numbers(element)?;
-    edge_from(alloc, builder, &parts, from, to)
+    edge_from(names, builder, &parts, from, to)
 }
 
 // The edge of its parts, between the nodes of two numbers.
 fn edge_from(
-    alloc: Global,
+    names: &mut NamePool,
     builder: &GraphBuilder,
     parts: &Parts,
     from: u64,
@@ -60,7 +59,7 @@ fn edge_from(
 {
     let id = new_id(builder, parts.id)?;
     let (from, to) = ends_of(builder, from, to)?;
-    let (labels, properties) = described(alloc, parts)?;
+    let (labels, properties) = described(names, parts)?;
     Ok(EdgeInfo {
         id,
         from,

@@ -19,13 +19,13 @@ use crate::frame::Frame;
 use crate::nodes::add_node;
 use crate::paths::add_path;
 use crate::refusal::{GraphRefusal, Part, Spot};
+use gc_base::NamePool;
 use gc_ppg::{Coherence, GraphBuilder, Kind};
 use json::{Reader, Scratch};
-use std::alloc::Global;
 
 // Adds the elements of a kind that a text lists, which has this frame.
 pub(crate) fn add_list(
-    alloc: Global,
+    names: &mut NamePool,
     text: &str,
     scratch: &mut Scratch,
     frame: &Frame,
@@ -41,14 +41,14 @@ pub(crate) fn add_list(
         return Ok(());
     }
     match Reader::new(text, scratch) {
-        Ok(mut reader) => add_found(alloc, &mut reader, place.times, builder, seen, kind),
+        Ok(mut reader) => add_found(names, &mut reader, place.times, builder, seen, kind),
         Err(_) => Err(Failure::Memory),
     }
 }
 
 // Adds the elements of the list of a kind, whose key comes so often.
 fn add_found(
-    alloc: Global,
+    names: &mut NamePool,
     reader: &mut Reader<'_>,
     times: usize,
     builder: &mut GraphBuilder,
@@ -62,7 +62,7 @@ fn add_found(
         return Ok(());
     }
     match find(reader, 126, list_key(kind), times) {
-        Ok(true) => add_array(alloc, reader, builder, seen, kind),
+        Ok(true) => add_array(names, reader, builder, seen, kind),
         Ok(false) => Ok(()),
         Err(_) => Ok(()),
     }
@@ -81,7 +81,7 @@ fn list_key(kind: Kind) -> &'static str
 
 // Adds the elements of the array that the next value is; another value has none.
 fn add_array(
-    alloc: Global,
+    names: &mut NamePool,
     reader: &mut Reader<'_>,
     builder: &mut GraphBuilder,
     seen: &Coherence,
@@ -93,12 +93,12 @@ fn add_array(
     if !takes_array(reader) {
         return Ok(());
     }
-    add_elements(alloc, reader, 125, builder, seen, kind)
+    add_elements(names, reader, 125, builder, seen, kind)
 }
 
 // Adds the elements of an array, one after another.
 fn add_elements(
-    alloc: Global,
+    names: &mut NamePool,
     reader: &mut Reader<'_>,
     depth: usize,
     builder: &mut GraphBuilder,
@@ -111,7 +111,7 @@ fn add_elements(
 {
     let mut index: usize = 0;
     'items: while !reader.take_end_array() {
-        add_next(alloc, reader, depth, builder, seen, kind, index)?;
+        add_next(names, reader, depth, builder, seen, kind, index)?;
         index = index.checked_add(1).ok_or(Failure::Memory)?;
     }
     Ok(())
@@ -119,7 +119,7 @@ fn add_elements(
 
 // Adds the element that the next value is, at an index of its list.
 fn add_next(
-    alloc: Global,
+    names: &mut NamePool,
     reader: &mut Reader<'_>,
     depth: usize,
     builder: &mut GraphBuilder,
@@ -132,13 +132,13 @@ fn add_next(
         (value_data depth reader.old)) result builder.new reader.new }
     ensures shorter { OnOk result (length reader.new < length reader.old) }
 {
-    let element = read_element(alloc, reader, depth, kind)?;
-    add_located(alloc, builder, seen, kind, index, &element)
+    let element = read_element(names.allocator(), reader, depth, kind)?;
+    add_located(names, builder, seen, kind, index, &element)
 }
 
 // Adds the element at an index of its list.
 fn add_located(
-    alloc: Global,
+    names: &mut NamePool,
     builder: &mut GraphBuilder,
     seen: &Coherence,
     kind: Kind,
@@ -149,7 +149,7 @@ fn add_located(
         (located (record { part = part_of kind; index = index }) (add_values_of seen.now kind builder.old (element_seen element.now))) result }
 {
     let part = part_of(kind);
-    match add_element(alloc, builder, seen, kind, element) {
+    match add_element(names, builder, seen, kind, element) {
         Ok(()) => Ok(()),
         Err(failure) => Err(failure.at(Spot { part, index })),
     }
@@ -157,7 +157,7 @@ fn add_located(
 
 // Adds an element of a kind.
 fn add_element(
-    alloc: Global,
+    names: &mut NamePool,
     builder: &mut GraphBuilder,
     seen: &Coherence,
     kind: Kind,
@@ -166,9 +166,9 @@ fn add_element(
     ensures { Gives (λ _. builder.new) (add_values_of seen.now kind builder.old (element_seen element.now)) result }
 {
     match kind {
-        Kind::Node => add_node(alloc, builder, seen, element),
-        Kind::Edge => add_edge(alloc, builder, seen, element),
-        Kind::Path => add_path(alloc, builder, seen, element),
+        Kind::Node => add_node(names, builder, seen, element),
+        Kind::Edge => add_edge(names, builder, seen, element),
+        Kind::Path => add_path(names, builder, seen, element),
     }
 }
 

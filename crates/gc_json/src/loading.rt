@@ -13,6 +13,7 @@ use crate::first_pass::frame_of_text;
 use crate::frame::Frame;
 use crate::listing::add_list;
 use crate::refusal::{GraphRefusal, WHOLE};
+use gc_base::NamePool;
 use gc_ppg::{Coherence, Graph, GraphBuilder, Kind};
 use json::Scratch;
 use std::alloc::Global;
@@ -82,7 +83,7 @@ fn graph_of_frame(
     }
 }
 
-// The graph of the lists: nodes, then edges, then paths.
+// The graph of the lists: nodes, then edges, then paths. They share one pool of names.
 fn graph_of_lists(
     alloc: Global,
     text: &str,
@@ -93,9 +94,10 @@ fn graph_of_lists(
     ensures { OfObject (tokens text.now) (λ es. frame.now ≡ frame_of es
         → Gives (λ builder. builder) (graph_of_lists seen.now (entry_lists es)) result) }
 {
+    let names = &mut NamePool::new(alloc)?;
     let mut builder = GraphBuilder::new(alloc);
-    add_list(alloc, text, scratch, frame, &mut builder, seen, Kind::Node)?;
-    add_list(alloc, text, scratch, frame, &mut builder, seen, Kind::Edge)?;
-    add_list(alloc, text, scratch, frame, &mut builder, seen, Kind::Path)?;
+    add_list(names, text, scratch, frame, &mut builder, seen, Kind::Node)?;
+    add_list(names, text, scratch, frame, &mut builder, seen, Kind::Edge)?;
+    add_list(names, text, scratch, frame, &mut builder, seen, Kind::Path)?;
     Ok(builder)
 }

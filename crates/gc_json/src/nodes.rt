@@ -7,19 +7,19 @@ ghost use Rattle.gc_json.specs.Reading.{Gives};
 use crate::element::Element;
 use crate::fault::{Failure, Fault};
 use crate::parts::{described, new_id, parts_of};
+use gc_base::NamePool;
 use gc_ppg::{Coherence, GraphBuilder, NodeInfo, Shape};
-use std::alloc::Global;
 
 // Adds the node that a value is.
 pub(crate) fn add_node(
-    alloc: Global,
+    names: &mut NamePool,
     builder: &mut GraphBuilder,
     seen: &Coherence,
     element: &Element,
 ) -> Result<(), Failure<Fault>>
     ensures { Gives (λ _. builder.new) (add_node_of seen.now builder.old (element_seen element.now)) result }
 {
-    let node = node_of(alloc, builder, element)?;
+    let node = node_of(names, builder, element)?;
     if !seen.agrees(node.id, &Shape::Node) {
         return Err(Failure::Refused(Fault::Incoherent(node.id)));
     }
@@ -29,7 +29,7 @@ pub(crate) fn add_node(
 
 // The node that a value is in the graph so far.
 fn node_of(
-    alloc: Global,
+    names: &mut NamePool,
     builder: &GraphBuilder,
     element: &Element,
 ) -> Result<NodeInfo, Failure<Fault>>
@@ -38,7 +38,7 @@ fn node_of(
 {
     let parts = parts_of(element)?;
     let id = new_id(builder, parts.id)?;
-    let (labels, properties) = described(alloc, &parts)?;
+    let (labels, properties) = described(names, &parts)?;
     Ok(NodeInfo {
         id,
         labels,

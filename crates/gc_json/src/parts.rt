@@ -14,10 +14,9 @@ use crate::fault::{Failure, Fault};
 use crate::labels::labels_in;
 use crate::properties::properties_of;
 use crate::values::{list_in, members_in, number_in};
-use gc_base::{Id, LabelSet, Properties};
+use gc_base::{Id, LabelSet, NamePool, Properties};
 use gc_ppg::GraphBuilder;
 use serde_json::{Map, Value};
-use std::alloc::Global;
 
 // The parts of an element as they stand in the file: its number, its labels, its properties.
 #[derive(Clone, Copy)]
@@ -77,25 +76,25 @@ pub(crate) fn end_of(builder: &GraphBuilder, number: u64) -> Result<Id, Failure<
 
 // The labels and the properties. All labels are tested before all properties.
 pub(crate) fn described(
-    alloc: Global,
+    names: &mut NamePool,
     parts: &Parts,
 ) -> Result<(LabelSet, Properties), Failure<Fault>>
     ensures { Gives (λ about. about) (described (parts_seen parts.now)) result }
 {
-    let labels = labels_in(alloc, parts.labels)?;
-    let properties = properties_in(alloc, parts.properties)?;
+    let labels = labels_in(names, parts.labels)?;
+    let properties = properties_in(names, parts.properties)?;
     Ok((labels, properties))
 }
 
 // The properties of an object; without one there are none.
 fn properties_in(
-    alloc: Global,
+    names: &mut NamePool,
     members: Option<&Map<String, Value>>,
 ) -> Result<Properties, Failure<Fault>>
     ensures { Gives (λ properties. properties) (properties_of (members_seen members.entry)) result }
 {
     match members {
-        None => Ok(Properties::empty(alloc)),
-        Some(members) => properties_of(alloc, members),
+        None => Ok(Properties::empty(names.allocator())),
+        Some(members) => properties_of(names, members),
     }
 }

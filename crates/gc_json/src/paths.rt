@@ -11,21 +11,20 @@ use crate::element::Element;
 use crate::fault::{Failure, Fault};
 use crate::parts::{Parts, described, new_id, parts_of};
 use crate::walks::{walk_in, walk_items};
-use gc_base::{Id, Walk};
+use gc_base::{Id, NamePool, Walk};
 use gc_ppg::{Coherence, GraphBuilder, PathInfo, Shape};
 use serde_json::Value;
-use std::alloc::Global;
 
 // Adds the stored path that a value is.
 pub(crate) fn add_path(
-    alloc: Global,
+    names: &mut NamePool,
     builder: &mut GraphBuilder,
     seen: &Coherence,
     element: &Element,
 ) -> Result<(), Failure<Fault>>
     ensures { Gives (λ _. builder.new) (add_path_of seen.now builder.old (element_seen element.now)) result }
 {
-    let path = path_of(alloc, builder, element)?;
+    let path = path_of(names, builder, element)?;
     let path = agreeing(seen, path)?;
     builder.put_path(path)?;
     Ok(())
@@ -66,7 +65,7 @@ fn agreeing_walk(seen: &Coherence, id: Id, walk: Walk) -> Result<Walk, Failure<F
 
 // The stored path that a value is in the graph so far.
 fn path_of(
-    alloc: Global,
+    names: &mut NamePool,
     builder: &GraphBuilder,
     element: &Element,
 ) -> Result<PathInfo, Failure<Fault>>
@@ -76,12 +75,12 @@ fn path_of(
 {
     let parts = parts_of(element)?;
     let items = walk_items(element)?;
-    path_from(alloc, builder, &parts, items)
+    path_from(names, builder, &parts, items)
 }
 
 // The stored path of its parts, with the walk of an array.
 fn path_from(
-    alloc: Global,
+    names: &mut NamePool,
     builder: &GraphBuilder,
     parts: &Parts,
     items: &[Value],
@@ -91,8 +90,8 @@ fn path_from(
     ensures walk { IfOk result (λ path. is_walk builder.now.nodes builder.now.edges path.walk ≡ true) }
 {
     let id = new_id(builder, parts.id)?;
-    let walk = walk_in(alloc, builder, items)?;
-    let (labels, properties) = described(alloc, parts)?;
+    let walk = walk_in(names.allocator(), builder, items)?;
+    let (labels, properties) = described(names, parts)?;
     Ok(PathInfo {
         id,
         walk,
