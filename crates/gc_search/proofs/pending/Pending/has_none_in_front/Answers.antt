@@ -1,4 +1,4 @@
-use Rattle.std.proofs.Common.{◌≡◌, ◌<◌, ap, ◌∙◌, arith, length}
+use Rattle.std.proofs.Common.{◌<◌, ap, ◌∙◌, arith, length}
 use Rattle.std.proofs.lemmas.Bool.Decides.{nat_tests}
 use Rattle.gc_search.specs.Waiting.{Queue}
 use Rattle.gc_search.proofs.GroupLaws.{some_waiting}
