@@ -12,9 +12,9 @@ use Rattle.gc_prod.specs.Leading.{pair, target_of, steps_of}
 use Rattle.gc_prod.specs.Products.{Setting, moves}
 use Rattle.gc_search.specs.Arrivals.{FoundWalk, edges_along, entry_of, same_pair, arrivals_at, settled_at, passage, passages, stays_at, extended, extensions, open_moves, TakesLeast, IsSeen, IsNew}
 use Rattle.gc_search.specs.Entries.{Entry, entry, AtMost, extend}
-use Rattle.gc_search.specs.Passages.{Has, Passage, IsOnward, Reach, IsFirstK}
+use Rattle.gc_search.specs.Passages.{Has, Passage, IsOnward, Reach, IsFirstK, Covered}
 use Rattle.gc_search.proofs.Order.{at_most_trans, at_most_extend}
-use Rattle.gc_search.proofs.Settle.{Has_front, Inv, IsDue, inv_start, inv_end, inv_full, inv_same, seen_covered, full_covered, inv_drop, inv_settle}
+use Rattle.gc_search.proofs.Settle.{Has_front, Inv, IsDue, inv_start, inv_end, inv_full, inv_less, seen_covered, full_covered, inv_drop, inv_settle}
 
 eqb_same : (a b : ℕ) → (a == b) ≡ true → a ≡ b
 eqb_same a b h = grind (arith, nat_tests)
@@ -128,9 +128,21 @@ module _ (setting : Setting) (source : ℕ) (k : ℕ) where
         | inr g ↦ elim g [ ]
       ])
 
-  pub state_same : (settled xs ys : List FoundWalk) → ((x : FoundWalk) → Has xs x → Has ys x) → ((x : FoundWalk) → Has ys x → Has xs x) → State settled xs → State settled ys
-  state_same settled xs ys there back s =
-      inv_same Pair (passages setting) (pair source 0) k (settled_at settled) (IsPending xs) (IsPending ys) s (λ p x h. (h.0, there h.0 h.1, h.2, h.3)) (λ p x h. (h.0, back h.0 h.1, h.2, h.3))
+  -- the same are pending, but some to pairs that are full
+  pub state_less : (settled xs ys : List FoundWalk) → ((x : FoundWalk) → Has xs x → Has ys x ⊎ (k ≤ length (arrivals_at settled x.at)))
+      → ((x : FoundWalk) → Has ys x → Has xs x) → State settled xs → State settled ys
+  state_less settled xs ys there back s =
+      inv_less Pair (passages setting) (pair source 0) k (settled_at settled) (IsPending xs) (IsPending ys) s
+      (λ p x h. elim (there h.0 h.1) [
+        | inl g ↦ inl (h.0, g, h.2, h.3)
+        | inr full ↦
+            let a = h.0 in
+            let many : k ≤ length (settled_at settled a.at) = omega (arith, full, length-map (arrivals_at settled a.at) entry_of) in
+            let covered : Covered k (settled_at settled a.at) (entry_of a) =
+            full_covered Pair (passages setting) (pair source 0) k (settled_at settled a.at) (entry_of a) (λ y g. s.ordered a.at a.at y (entry_of a) g (a, h.1, refl, refl)) many in
+            inr (subst (Covered k (settled_at settled p)) h.3 (subst (λ q. Covered k (settled_at settled q) (entry_of a)) h.2 covered))
+      ])
+      (λ p x h. (h.0, back h.0 h.1, h.2, h.3))
 
   pub state_end : (settled : List FoundWalk) → State settled [] → (q : Pair) → IsFirstK k (Reach (passages setting) (pair source 0) q) (settled_at settled q)
   state_end settled s = inv_end Pair (passages setting) (pair source 0) k (settled_at settled) (IsPending []) s (λ p e h. h.1)

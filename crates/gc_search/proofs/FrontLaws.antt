@@ -1,23 +1,25 @@
 -- Filling the front: walks that are alike, sorted by their edges.
-use Rattle.std.proofs.Common.{◌≡◌, ℕ, suc, ◌+◌, ◌<◌, false, List, [], ◌∷◌, ◌++◌, map, length, slice_index_or, inl, inr, refl, sym, ap, subst, ◌∙◌, arith, Ordering, Less, Equal, Greater}
+use Rattle.std.proofs.Common.{◌≡◌, ℕ, suc, ◌+◌, ◌<◌, ◌≤◌, nat_lt, Bool, true, false, cond, List, [], ◌∷◌, ◌++◌, map, length, slice_index_or, inl, inr, refl, sym, subst, ◌∙◌, arith, length-append, Ordering, Less, Equal, Greater}
 use Rattle.std.specs.Cmp.{IsTotalOrder, nat_cmp_total, on_total, then_total, back_total}
 use Rattle.std.specs.Cmp.Lexicographic.{slice_cmp, nat_list_cmp_total}
+use Rattle.std.specs.List.{filter}
 use Rattle.std.specs.List.Sorted.{IsPermutation, IsSorted}
 use Rattle.std.specs.Ordering.{MatchOrdering, nat_cmp, is_lt, ordering_then}
+use Rattle.std.proofs.lemmas.Bool.Decides.{nat_tests}
 use Rattle.std.proofs.lemmas.Cmp.{ranked}
 use Rattle.std.proofs.lemmas.List.{length-map}
-use Rattle.std.proofs.lemmas.List.Sorted.{IsPermutation-sym, IsPermutation-trans, IsPermutation-append_left, length_permutation}
+use Rattle.std.proofs.lemmas.List.Sorted.{IsPermutation-sym, length_permutation}
 use Rattle.gc_base.specs.declared.walk.Step.{Step}
 use Rattle.gc_prod.specs.Products.{Setting}
-use Rattle.gc_search.specs.Arrivals.{FoundWalk, entry_of, NoLater}
+use Rattle.gc_search.specs.Arrivals.{FoundWalk, arrivals_at, entry_of, NoLater}
 use Rattle.gc_search.specs.Entries.{Entry, LexLess, Lower, Cheaper, Shorter, AtMost, Strictly, Same}
 use Rattle.gc_search.specs.Links.{Link, Walks, IsTold}
 use Rattle.gc_search.specs.Passages.{Has}
 use Rattle.gc_search.specs.Tails.{edges_told, edges_order}
-use Rattle.gc_search.specs.Waiting.{Queue, links_of, told_by, Falls, IsAlike, IsSooner, IsQueue, AreFirst, IsFilled}
+use Rattle.gc_search.specs.Waiting.{Queue, links_of, told_by, Falls, IsAlike, IsSooner, IsQueue, AreFirst, IsSifted}
 use Rattle.gc_search.proofs.Bridge.{has_permuted}
-use Rattle.gc_search.proofs.Flat.{Has_later, Has_from_map}
-use Rattle.gc_search.proofs.LoopLaws.{lex_ranked, all_has, all_of_has, none_there}
+use Rattle.gc_search.proofs.Flat.{Has_cases, Has_later, Has_from_map, Has_filtered, filter_or}
+use Rattle.gc_search.proofs.LoopLaws.{lex_ranked, all_has, all_of_has}
 use Rattle.gc_search.proofs.Order.{entry_eq}
 use Rattle.gc_search.proofs.Settle.{Has_front}
 use Rattle.gc_search.proofs.WaitingLaws.{queue, no_later_trans}
@@ -84,28 +86,81 @@ module _ (tree : Walks) where
           let e : suc k + 1 ≡ suc (k + 1) = omega arith in
           subst (λ n. is_lt (front_order tree.setting tree.walks (slice_index_or (x ∷ y ∷ front) n d) (slice_index_or (y ∷ front) k d)) ≡ false) e h
 
-  pub filled : (before middle : Queue) (front : List Link) → IsQueue tree before → IsPermutation (links_of before) (links_of middle) → AreFirst middle
-      → IsPermutation middle.front front → IsSorted (front_order tree.setting tree.walks) front → IsFilled tree before (queue front middle.later)
-  filled before middle front q same are p sorted =
-      let back : (x : Link) → Has front x → Has middle.front x = λ x h. has_permuted front middle.front x (IsPermutation-sym middle.front front p) h in
-      let whole : IsPermutation (links_of before) (front ++ middle.later) =
-      IsPermutation-trans (links_of before) (links_of middle) (front ++ middle.later) same (IsPermutation-append_left middle.later middle.front front p) in
-      let told : (x : Link) → Has (front ++ middle.later) x → IsTold tree.setting tree.walks x = λ x h.
-      all_has (IsTold tree.setting tree.walks) (links_of before) x q.told (has_permuted (front ++ middle.later) (links_of before) x (IsPermutation-sym (links_of before) (front ++ middle.later) whole) h) in
-      record {
-        same = whole;
-        queue = record {
-          told = all_of_has (IsTold tree.setting tree.walks) (front ++ middle.later) told;
-          falls = falls_sorted (map walk middle.later) front (λ x h. told x (Has_front front middle.later x h)) (λ x y h g. are.alike x y (back x h) (back y g))
-              (λ x y h g.
-              let from = Has_from_map walk middle.later y g in
-              subst (NoLater (walk x)) from.2
-              (sooner_no_later x from.0 (told x (Has_front front middle.later x h)) (told from.0 (Has_later front middle.later from.0 from.1)) (are.sooner x from.0 (back x h) from.1)))
-              sorted;
-          level = λ x y h g. (are.alike x y (back x h) (back y g)).0;
-        };
-        some = λ none. are.some (no_front none);
-      }
-    where
-      no_front : front ≡ [] → middle.front ≡ []
-      no_front none = none_there middle.front (omega (arith, length_permutation middle.front front p, ap length none))
+  -- the first group comes to the front, but for some to pairs that are full
+  module _ (k : ℕ) (before middle : Queue) (some front : List Link) (q : IsQueue tree before) (same : IsPermutation (links_of before) (links_of middle)) (are : AreFirst middle)
+      (left : IsSifted tree k middle.front some) (p : IsPermutation some front) (sorted : IsSorted (front_order tree.setting tree.walks) front) where
+    back : (x : Link) → Has front x → Has middle.front x
+    back x h = left.from x (has_permuted front some x (IsPermutation-sym some front p) h)
+
+    from : (x : Link) → Has (front ++ middle.later) x → Has (links_of before) x
+    from x h = has_permuted (links_of middle) (links_of before) x (IsPermutation-sym (links_of before) (links_of middle) same) (elim (Has_cases front middle.later x h) [
+      | inl g ↦ Has_front middle.front middle.later x (back x g)
+      | inr g ↦ Has_later middle.front middle.later x g
+    ])
+
+    pub group_sifted : IsSifted tree k (links_of before) (front ++ middle.later)
+    group_sifted = record {
+      kept = λ x h. elim (Has_cases middle.front middle.later x (has_permuted (links_of before) (links_of middle) x same h)) [
+        | inl g ↦ elim (left.kept x g) [ inl f ↦ inl (Has_front front middle.later x (has_permuted some front x p f)) | inr full ↦ inr full ]
+        | inr g ↦ inl (Has_later front middle.later x g)
+      ];
+      from = from;
+      fewer = omega (
+        arith,
+        left.fewer,
+        length_permutation (links_of before) (links_of middle) same,
+        length_permutation some front p,
+        length-append front middle.later,
+        length-append middle.front middle.later,
+      );
+    }
+
+    told : (x : Link) → Has (front ++ middle.later) x → IsTold tree.setting tree.walks x
+    told x h = all_has (IsTold tree.setting tree.walks) (links_of before) x q.told (from x h)
+
+    pub group_queue : IsQueue tree (queue front middle.later)
+    group_queue = record {
+      told = all_of_has (IsTold tree.setting tree.walks) (front ++ middle.later) told;
+      falls = falls_sorted (map walk middle.later) front (λ x h. told x (Has_front front middle.later x h)) (λ x y h g. are.alike x y (back x h) (back y g))
+          (λ x y h g.
+          let one = Has_from_map walk middle.later y g in
+          subst (NoLater (walk x)) one.2
+          (sooner_no_later x one.0 (told x (Has_front front middle.later x h)) (told one.0 (Has_later front middle.later one.0 one.1)) (are.sooner x one.0 (back x h) one.1)))
+          sorted;
+      level = λ x y h g. (are.alike x y (back x h) (back y g)).0;
+    }
+
+-- some walks without those to pairs that have k
+abbrev pub has_room : List FoundWalk → ℕ → Link → Bool
+has_room walks k l = nat_lt (length (arrivals_at walks l.at)) k
+
+no_room : (n k : ℕ) → nat_lt n k ≡ false → k ≤ n
+no_room n k h = grind (arith, nat_tests)
+
+fewer_if : (b : Bool) (x : Link) (xs rest : List Link) → length rest ≤ length xs → length (cond b (x ∷ rest) rest) ≤ length (x ∷ xs)
+fewer_if true x xs rest h = omega (arith, h)
+fewer_if false x xs rest h = omega (arith, h)
+
+fewer_left : (test : Link → Bool) (xs : List Link) → length (filter test xs) ≤ length xs
+fewer_left test [] = omega arith
+fewer_left test (x ∷ xs) = fewer_if (test x) x xs (filter test xs) (fewer_left test xs)
+
+pub room_sifted : (tree : Walks) (k : ℕ) (xs : List Link) → IsSifted tree k xs (filter (has_room tree.walks k) xs)
+room_sifted tree k xs = record {
+  kept = λ x h. elim (filter_or (has_room tree.walks k) xs x h) [
+    | inl full ↦ inr (no_room (length (arrivals_at tree.walks x.at)) k full)
+    | inr g ↦ inl g
+  ];
+  from = λ x h. Has_filtered (has_room tree.walks k) xs x h;
+  fewer = fewer_left (has_room tree.walks k) xs;
+}
+
+pub sifted_none : (tree : Walks) (k : ℕ) (xs : List Link) → IsSifted tree k xs xs
+sifted_none tree k xs = record { kept = λ x h. inl h; from = λ x h. h; fewer = omega arith }
+
+pub sifted_more : (tree : Walks) (k : ℕ) (xs ys zs : List Link) → IsSifted tree k xs ys → IsSifted tree k ys zs → IsSifted tree k xs zs
+sifted_more tree k xs ys zs f g = record {
+  kept = λ x h. elim (f.kept x h) [ inl a ↦ g.kept x a | inr full ↦ inr full ];
+  from = λ x h. f.from x (g.from x h);
+  fewer = omega (arith, f.fewer, g.fewer);
+}

@@ -146,3 +146,20 @@ module _ {A : Type 0} where
         by next Less g = (single its, groups)
         by next Equal g = cc
         by next Greater g = (groups.0, next g)
+
+-- some groups have some walks
+pub some_there : (xs : List Link) → (xs ≡ [] → ⊥) → 0 < length xs
+some_there [] some = elim (some refl) [ ]
+some_there (x ∷ xs) some = omega arith
+
+pub both_none : {X : Type 0} (xs ys : List X) → xs ++ ys ≡ [] → (xs ≡ []) × (ys ≡ [])
+both_none [] ys e = (refl, e)
+both_none (x ∷ xs) ys e = cc
+
+pub some_waiting : {A : Type 0} (es : Groups A) → AreGroups es → 0 < length es → all_of es ≡ [] → ⊥
+some_waiting [] groups some e = omega (arith, some)
+some_waiting (group ∷ es) groups some e = (groups.0).some (both_none group.1.items (all_of es) e).0
+
+pub none_waiting : {A : Type 0} (es : Groups A) → length es ≡ 0 → all_of es ≡ []
+none_waiting [] none = refl
+none_waiting (group ∷ es) none = absurd (omega (arith, none))

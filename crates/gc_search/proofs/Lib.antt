@@ -14,6 +14,7 @@ pub mod RankLaws
 pub mod ReadyLaws
 pub mod Settle
 pub mod TailLaws
+pub mod TakenLaws
 pub mod TreeLaws
 pub mod Turns
 pub mod WaitingLaws

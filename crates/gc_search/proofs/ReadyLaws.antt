@@ -1,25 +1,24 @@
 -- What holds before each turn of the search: of the walks that are settled, and of the links that are pending.
-use Rattle.std.proofs.Common.{◌≡◌, ℕ, ◌+◌, ◌^◌, ◌<◌, ◌≤◌, List, [], ◌∷◌, ◌++◌, inl, inr, length, Some, refl, sym, ap, subst, ◌∙◌, arith}
+use Rattle.std.proofs.Common.{◌≡◌, ℕ, ◌+◌, ◌^◌, ◌<◌, ◌≤◌, List, [], ◌∷◌, ◌++◌, ◌⊎◌, inl, inr, length, Some, refl, sym, ap, subst, ◌∙◌, arith}
 use Rattle.std.specs.List.{AllByRecursion, slice_get}
 use Rattle.std.specs.List.Sorted.{IsPermutation}
 use Rattle.std.proofs.lemmas.List.{map-append}
-use Rattle.std.proofs.lemmas.List.Sorted.{IsPermutation-map, IsPermutation-sym}
+use Rattle.std.proofs.lemmas.List.Sorted.{IsPermutation-map}
 use Rattle.gc_spec.specs.PropertyGraph.{is_among}
 use Rattle.gc_automata.specs.Moves.{IsThere}
 use Rattle.gc_prod.specs.declared.moves.Pair.{Pair}
 use Rattle.gc_prod.specs.Products.{Setting, moves}
-use Rattle.gc_search.specs.Arrivals.{FoundWalk, stays_at, passages, extensions, open_moves, IsLowAt, IsNew, IsOld, NoLater}
+use Rattle.gc_search.specs.Arrivals.{FoundWalk, stays_at, arrivals_at, passages, extensions, open_moves, IsLowAt, IsNew, IsOld, NoLater}
 use Rattle.gc_search.specs.Links.{Link, Walks, starts_at, IsTold}
 use Rattle.gc_search.specs.Passages.{Has, Passage, IsOnward}
 use Rattle.gc_search.specs.Places.{Listing, IsFresh, IsNumbered, tree_of}
 use Rattle.gc_search.specs.Waiting.{Queue, links_of, told_by, walks_by, waiting, AllTold, Falls, IsQueue, IsLed, IsFirstTaken, IsFilled, IsBehind, IsGrown}
-use Rattle.gc_search.proofs.Bridge.{has_permuted}
-use Rattle.gc_search.proofs.Flat.{Has_later}
+use Rattle.gc_search.proofs.Flat.{Has_later, Has_map, Has_from_map}
 use Rattle.gc_search.proofs.LoopLaws.{all_has, all_of_has}
 use Rattle.gc_search.proofs.NumberLaws.{LeadNumbered, AreNumbered, leads_numbered, taken_numbered, rest_numbered, more_numbered}
 use Rattle.gc_search.proofs.Settle.{Has_front}
 use Rattle.gc_search.proofs.TreeLaws.{walk_kept, told_kept}
-use Rattle.gc_search.proofs.Turns.{IsOn, permuted, turn_start, turn_old, turn_settles}
+use Rattle.gc_search.proofs.Turns.{IsOn, on_less, turn_start, turn_old, turn_settles}
 use Rattle.gc_search.proofs.WaitingLaws.{queue, behind_all}
 
 pub record IsReady (source k : ℕ) (l : Listing) (q : Queue) : Type 0 where
@@ -41,17 +40,24 @@ ready_start product source k l fresh there = record {
   numbered = (record { node = ap (λ ids. is_among ids source) fresh.nodes ∙ there; state = fresh.states }, tt);
 }
 
-pub ready_filled : (source k : ℕ) (l : Listing) (q r : Queue) → IsReady source k l q → IsFilled (tree_of l) q r → IsReady source k l r
+pub ready_filled : (source k : ℕ) (l : Listing) (q r : Queue) → IsReady source k l q → IsFilled (tree_of l) k q r → IsReady source k l r
 ready_filled source k l q r ready filled =
-    let p : IsPermutation (waiting (tree_of l) q) (waiting (tree_of l) r) = IsPermutation-map (told_by (tree_of l)) (links_of q) (links_of r) filled.same in
+    let tree = tree_of l in
+    let there : (x : FoundWalk) → Has (waiting tree q) x → Has (waiting tree r) x ⊎ (k ≤ length (arrivals_at l.walks x.at)) = λ x h.
+    let from = Has_from_map (told_by tree) (links_of q) x h in
+    elim (filled.sifted.kept from.0 from.1) [
+      | inl g ↦ inl (subst (Has (waiting tree r)) from.2 (Has_map (told_by tree) (links_of r) from.0 g))
+      | inr full ↦ inr (subst (λ (a : FoundWalk). k ≤ length (arrivals_at l.walks a.at)) from.2 full)
+    ] in
+    let back : (x : FoundWalk) → Has (waiting tree r) x → Has (waiting tree q) x = λ x h.
+    let from = Has_from_map (told_by tree) (links_of r) x h in
+    subst (Has (waiting tree q)) from.2 (Has_map (told_by tree) (links_of q) from.0 (filled.sifted.from from.0 from.1)) in
     record {
-      on = permuted l.setting source k l.walks (waiting (tree_of l) q) (waiting (tree_of l) r) p ready.on;
+      on = on_less l.setting source k l.walks (waiting tree q) (waiting tree r) there back ready.on;
       queue = filled.queue;
       lead = ready.lead;
-      numbered = all_of_has (λ (a : FoundWalk). IsNumbered l.nodes l.width a.at) (waiting (tree_of l) r)
-          (λ x h.
-          all_has (λ (a : FoundWalk). IsNumbered l.nodes l.width a.at) (waiting (tree_of l) q) x ready.numbered
-          (has_permuted (waiting (tree_of l) r) (waiting (tree_of l) q) x (IsPermutation-sym (waiting (tree_of l) q) (waiting (tree_of l) r) p) h));
+      numbered = all_of_has (λ (a : FoundWalk). IsNumbered l.nodes l.width a.at) (waiting tree r)
+          (λ x h. all_has (λ (a : FoundWalk). IsNumbered l.nodes l.width a.at) (waiting tree q) x ready.numbered (back x h));
     }
 
 pub ready_old : (source k : ℕ) (l : Listing) (q r : Queue) (t : Link) → IsReady source k l q → IsFirstTaken (tree_of l) q t r → IsOld l.walks k (told_by (tree_of l) t) → IsReady source k l r

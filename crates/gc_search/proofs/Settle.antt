@@ -108,11 +108,15 @@ module _ (P : Type 0) (passages : P → List (Passage P)) (source : P) (k : ℕ)
         Listed one.0 one.1 (ap (λ (v : Entry). v.edges) one.2) (omega (arith, cost))
   ]
 
-  -- the same is pending
-  pub inv_same : (at : P → List Entry) (pending pending' : P → Entry → Type 0) → Inv at pending → ((p : P) (x : Entry) → pending p x → pending' p x)
+  -- the same is pending, but some of what is covered
+  pub inv_less : (at : P → List Entry) (pending pending' : P → Entry → Type 0) → Inv at pending
+      → ((p : P) (x : Entry) → pending p x → pending' p x ⊎ Covered k (at p) x)
       → ((p : P) (x : Entry) → pending' p x → pending p x) → Inv at pending'
-  inv_same at pending pending' inv there back =
-      let due : (p : P) (x : Entry) → IsDue at pending p x → IsDue at pending' p x = λ p x d. elim d [ inl c ↦ inl c | inr h ↦ inr (there p x h) ] in
+  inv_less at pending pending' inv there back =
+      let due : (p : P) (x : Entry) → IsDue at pending p x → IsDue at pending' p x = λ p x d. elim d [
+        | inl c ↦ inl c
+        | inr h ↦ elim (there p x h) [ inl g ↦ inr g | inr c ↦ inl c ]
+      ] in
       record {
         sound = inv.sound;
         pending_sound = λ p x h. inv.pending_sound p x (back p x h);

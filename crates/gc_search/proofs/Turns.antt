@@ -1,5 +1,5 @@
 -- The turns of the search: one that settles the least walk that is pending, and two that drop it.
-use Rattle.std.proofs.Common.{◌≡◌, ℕ, ◌+◌, ◌-◌, ◌*◌, ◌^◌, ◌<◌, ◌≤◌, List, [], ◌∷◌, ◌++◌, inl, inr, length, map, Option, None, Some, Bool, true, false, nat_lt, refl, sym, ap, ◌∙◌, subst, arith, length-append}
+use Rattle.std.proofs.Common.{◌≡◌, ℕ, ◌+◌, ◌-◌, ◌*◌, ◌^◌, ◌<◌, ◌≤◌, List, [], ◌∷◌, ◌++◌, ◌⊎◌, inl, inr, length, map, Option, None, Some, Bool, true, false, nat_lt, refl, sym, ap, ◌∙◌, subst, arith, length-append}
 use Rattle.std.specs.List.{AllByRecursion, slice_get}
 use Rattle.std.specs.List.Sorted.{IsPermutation}
 use Rattle.std.proofs.lemmas.List.{map-append}
@@ -14,7 +14,7 @@ use Rattle.gc_search.specs.Finding.{IsFollowed}
 use Rattle.gc_search.specs.Passages.{Has, Passage, IsOnward, IsCounted, Reach, IsFirstK}
 use Rattle.gc_search.specs.Ranks.{AreNoLater}
 use Rattle.gc_search.proofs.Bridge.{contains_of, follows_push, has_permuted}
-use Rattle.gc_search.proofs.Flat.{IsPending, State, state_start, state_end, state_same, state_seen, state_full, state_full_at, state_settle, settled_has, Has_from_map, Has_filtered}
+use Rattle.gc_search.proofs.Flat.{IsPending, State, state_start, state_end, state_less, state_seen, state_full, state_full_at, state_settle, settled_has, Has_from_map, Has_filtered}
 use Rattle.gc_search.proofs.Order.{before_same_walk, before_trans, entry_eq}
 use Rattle.gc_search.proofs.RankLaws.{got_has, something}
 use Rattle.gc_search.proofs.Settle.{Has_pushed, last_alone, same_cost}
@@ -54,18 +54,23 @@ module _ (setting : Setting) (source k : ℕ) where
     pub due : AllByRecursion (IsFollowed setting source) pending
     pub latest : (y : FoundWalk) → slice_get settled (length settled - 1) ≡ Some y → AreNoLater settled y
 
-  -- the order of those that are pending means nothing
-  pub permuted : (settled xs ys : List FoundWalk) → IsPermutation xs ys → IsOn settled xs → IsOn settled ys
-  permuted settled xs ys p on =
-      let back : (x : FoundWalk) → Has ys x → Has xs x = λ x h. has_permuted ys xs x (IsPermutation-sym xs ys p) h in
+  -- those that are pending may be fewer by some to pairs that are full
+  pub on_less : (settled xs ys : List FoundWalk) → ((x : FoundWalk) → Has xs x → Has ys x ⊎ (k ≤ length (arrivals_at settled x.at)))
+      → ((x : FoundWalk) → Has ys x → Has xs x) → IsOn settled xs → IsOn settled ys
+  on_less settled xs ys there back on =
       record {
-        state = state_same setting source k settled xs ys (λ x h. has_permuted xs ys x p h) back on.state;
+        state = state_less setting source k settled xs ys there back on.state;
         small = all_of_has (λ (a : FoundWalk). a.cost ≤ length settled * 2 ^ 64) ys (λ x h. all_has (λ (a : FoundWalk). a.cost ≤ length settled * 2 ^ 64) xs x on.small (back x h));
         low = on.low;
         found = on.found;
         due = all_of_has (IsFollowed setting source) ys (λ x h. all_has (IsFollowed setting source) xs x on.due (back x h));
         latest = on.latest;
       }
+
+  -- their order means nothing
+  permuted : (settled xs ys : List FoundWalk) → IsPermutation xs ys → IsOn settled xs → IsOn settled ys
+  permuted settled xs ys p on =
+      on_less settled xs ys (λ x h. inl (has_permuted xs ys x p h)) (λ x h. has_permuted ys xs x (IsPermutation-sym xs ys p) h) on
 
   pub turn_start : (pending : List FoundWalk) → stays_at source ∷ [] ≡ pending → IsOn [] pending
   turn_start pending same =

@@ -1,9 +1,8 @@
 -- Walks that are pending: some in front, which come before all others, and the others in groups.
-use Rattle.std.specs.Prelude.{◌≡◌, ◌⊎◌, ℕ, ◌+◌, ◌<◌, ◌≤◌, ◌^◌, List, [], ◌∷◌, ◌++◌, map}
+use Rattle.std.specs.Prelude.{◌≡◌, ◌⊎◌, ℕ, ◌+◌, ◌<◌, ◌≤◌, ◌^◌, List, [], ◌∷◌, ◌++◌, length, map}
 use Rattle.std.specs.List.{AllByRecursion}
-use Rattle.std.specs.List.Sorted.{IsPermutation}
 use Rattle.gc_prod.specs.declared.moves.Move.{Move}
-use Rattle.gc_search.specs.Arrivals.{FoundWalk, extensions, open_moves, NoLater, TakesLeast}
+use Rattle.gc_search.specs.Arrivals.{FoundWalk, arrivals_at, extensions, open_moves, NoLater, TakesLeast}
 use Rattle.gc_search.specs.Links.{Link, Walks, walk_of, IsTold}
 use Rattle.gc_search.specs.Passages.{Has}
 
@@ -64,9 +63,15 @@ pub record AreFirst (q : Queue) : Type 0 where
   pub sooner : (x y : Link) → Has q.front x → Has q.later y → IsSooner x y
   pub some : q.front ≡ [] → q.later ≡ []
 
+-- of some walks none is left out but those to pairs that have k, and none is added
+pub record IsSifted (tree : Walks) (k : ℕ) (before after : List Link) : Type 0 where
+  pub kept : (x : Link) → Has before x → Has after x ⊎ (k ≤ length (arrivals_at tree.walks x.at))
+  pub from : (x : Link) → Has after x → Has before x
+  pub fewer : length after ≤ length before
+
 -- some are in front, where any are pending
-pub record IsFilled (tree : Walks) (before after : Queue) : Type 0 where
-  pub same : IsPermutation (links_of before) (links_of after)
+pub record IsFilled (tree : Walks) (k : ℕ) (before after : Queue) : Type 0 where
+  pub sifted : IsSifted tree k (links_of before) (links_of after)
   pub queue : IsQueue tree after
   pub some : after.front ≡ [] → after.later ≡ []
 

@@ -1,13 +1,14 @@
-ghost use Rattle.std.specs.Prelude.{◌≡◌, ◌++◌, ◌∷◌, [], IfOk, IfSome, IfNone, OnOk};
+ghost use Rattle.std.specs.Prelude.{◌≡◌, ◌<◌, ◌++◌, ◌∷◌, [], false, length, true, IfOk, IfSome, IfNone, OnOk};
 ghost use Rattle.std.specs.List.{AllByRecursion};
 ghost use Rattle.std.specs.List.Sorted.{IsPermutation};
 ghost use Rattle.gc_search.specs.Groups.{all_of, AreGroups};
 ghost use Rattle.gc_search.specs.Links.{Walks};
-ghost use Rattle.gc_search.specs.Waiting.{links_of, IsBehind, IsFilled, IsFirstTaken, IsLed, IsQueue};
+ghost use Rattle.gc_search.specs.Places.{tree_of};
+ghost use Rattle.gc_search.specs.Waiting.{links_of, IsBehind, IsFilled, IsFirstTaken, IsLed, IsQueue, IsSifted};
 
 use crate::comparing::edges_order;
 use crate::link::Link;
-use crate::tree::WalkTree;
+use crate::settled::Settled;
 use gc_base::Memory;
 use std::alloc::Global;
 use std::collections::BTreeMap;
@@ -55,22 +56,44 @@ impl Pending {
         self.front.pop()
     }
 
-    // Fills the front where it is empty: with the first group, the least last. Walks are settled in order, so
-    // those that extend them mostly came in order: turned around, a group is made of few runs, which this
-    // sort finds. What it has room for beyond its walks is given back first.
-    pub(crate) fn fill_front(&mut self, tree: &WalkTree) -> Result<(), Memory>
-        requires { IsQueue tree.now self.old }
-        ensures { OnOk result (IsFilled tree.now self.old self.new) }
+    // Fills the front where it is empty: with the first group of which walks are left.
+    pub(crate) fn fill_front(&mut self, settled: &Settled, k: u32) -> Result<(), Memory>
+        requires { IsQueue (tree_of settled.now) self.old }
+        ensures { OnOk result (IsFilled (tree_of settled.now) k self.old self.new) }
     {
-        if !self.front.is_empty() {
-            return Ok(());
+        'groups: while self.has_none_in_front() {
+            self.take_group(settled, k)?;
         }
+        Ok(())
+    }
+
+    // Whether none is in front, and there is a group.
+    fn has_none_in_front(&self) -> bool
+        ensures front { result ≡ true → self.now.front ≡ [] }
+        ensures some { result ≡ true → self.now.later ≡ [] → ⊥ }
+        ensures none { result ≡ false → self.now.front ≡ [] → self.now.later ≡ [] }
+    {
+        self.front.is_empty() && !self.groups.is_empty()
+    }
+
+    // Takes the first group to the front, the least last, but no walks to pairs that have k by now. Walks are
+    // settled in order, so those that extend them mostly came in order: turned around, a group is made of few
+    // runs, which this sort finds. What it has room for beyond its walks is given back first.
+    fn take_group(&mut self, settled: &Settled, k: u32) -> Result<(), Memory>
+        requires queue { IsQueue (tree_of settled.now) self.old }
+        requires none { self.old.front ≡ [] }
+        requires some { self.old.later ≡ [] → ⊥ }
+        ensures sifted { OnOk result (IsSifted (tree_of settled.now) k (links_of self.old) (links_of self.new)) }
+        ensures queue { OnOk result (IsQueue (tree_of settled.now) self.new) }
+        ensures fewer { OnOk result (length self.new.later < length self.old.later) }
+    {
         let Some((_, mut group)) = self.groups.pop_first() else {
-            return Ok(());
+            unreachable!()
         };
+        group.retain(|next| settled.has_room(&next.at, k));
         group.shrink_to_fit();
         group.reverse();
-        group.sort_by(|a, b| edges_order(tree, b, a))?;
+        group.sort_by(|a, b| edges_order(&settled.tree, b, a))?;
         self.front = group;
         Ok(())
     }

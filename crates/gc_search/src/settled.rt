@@ -1,4 +1,4 @@
-ghost use Rattle.std.specs.Prelude.{◌≡◌, ◌+◌, ◌*◌, ◌^◌, ◌<◌, ◌++◌, ◌∷◌, [], length, replicate, true, slice_get, slice_index, IfOk, IfSome, OnOk};
+ghost use Rattle.std.specs.Prelude.{◌≡◌, ◌+◌, ◌*◌, ◌^◌, ◌<◌, ◌++◌, ◌∷◌, [], length, nat_lt, replicate, true, slice_get, slice_index, IfOk, IfSome, OnOk};
 ghost use Rattle.std.specs.Option.{option_and_then};
 ghost use Rattle.std.specs.Ordering.{nat_cmp};
 ghost use Rattle.gc_base.specs.Ascending.{Ascends};
@@ -89,6 +89,13 @@ impl<'a> Settled<'a> {
     {
         let _few = self.tree.count();
         self.places_at(at).len()
+    }
+
+    // Whether fewer than k are settled at a pair.
+    pub(crate) fn has_room(&self, at: &Pair, k: u32) -> bool
+        ensures { result ≡ nat_lt (length (arrivals_at self.now.walks at.now)) k }
+    {
+        self.count_at(at) < k as usize
     }
 
     // The place of the i-th of those that are settled at a pair.

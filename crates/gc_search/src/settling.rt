@@ -165,7 +165,7 @@ pub(crate) fn settle<'a, L: Ledger>(
     let mut pending = Pending::of(alloc, Link::start(source))?;
     let mut more = Vec::new(alloc);
     'turns: while !is_done(&settled, &target, k) {
-        pending.fill_front(&settled.tree)?;
+        pending.fill_front(&settled, k)?;
         let Some(next) = pending.take_least() else {
             return Ok(settled);
         };

@@ -13,7 +13,7 @@ use Rattle.gc_search.specs.Counting.{asked, degree, most_moves}
 use Rattle.gc_search.specs.Links.{Link, starts_at}
 use Rattle.gc_search.specs.Passages.{Has, Passage, IsOnward, IsCounted, Reach, IsFirstK}
 use Rattle.gc_search.specs.Places.{Listing, tree_of}
-use Rattle.gc_search.specs.Waiting.{links_of, told_by, walks_by, waiting, IsBehind, IsFilled, IsGrown}
+use Rattle.gc_search.specs.Waiting.{links_of, told_by, walks_by, waiting, IsBehind, IsGrown}
 use Rattle.gc_search.proofs.ReadyLaws.{IsReady, ready_start, ready_filled, ready_old, grown_by, taken_has_number, ready_settled, are_behind, led_on, next_got, low_there}
 use Rattle.gc_search.proofs.Turns.{turn_end, turn_done, turn_small, turn_later, turn_unseen}
 use Rattle.gc_search.proofs.WaitingLaws.{queue}
@@ -43,7 +43,7 @@ returns-in_default-clause-first g c = λ p asked.
     let source = c.args.source in
     let k = c.args.k in
     let q = c.fill_front.new.self in
-    let filled = subst (λ (s : Listing). IsFilled (tree_of s) c.turns.pending q) c.settled-in-turns.view_is c.in_ok-fill_front.ensures in
+    let filled = c.in_ok-fill_front.ensures in
     let ready = ready_filled source k l c.turns.pending q inv.ready filled in
     let none : waiting (tree_of l) q ≡ [] = ap (λ (v : List Link). walks_by (tree_of l) v) c.in_default.ensures.none in
     subst (λ (s : Setting). IsFirstK k (Reach (passages s) (pair source 0) p) (settled_at l.walks p)) inv.same (turn_end l.setting source k l.walks (waiting (tree_of l) q) ready.on none p)
@@ -109,7 +109,7 @@ push-requires-clause-number g c =
     let source = c.args.source in
     let k = c.args.k in
     let q = c.fill_front.new.self in
-    let filled = subst (λ (s : Listing). IsFilled (tree_of s) c.turns.pending q) c.settled-in-turns.view_is c.in_ok-fill_front.ensures in
+    let filled = c.in_ok-fill_front.ensures in
     let ready = ready_filled source k l c.turns.pending q inv.ready filled in
     let r = c.take_least.new.self in
     let t = c.in-Some.next in
@@ -124,7 +124,7 @@ push-requires-clause-later g c =
     let source = c.args.source in
     let k = c.args.k in
     let q = c.fill_front.new.self in
-    let filled = subst (λ (s : Listing). IsFilled (tree_of s) c.turns.pending q) c.settled-in-turns.view_is c.in_ok-fill_front.ensures in
+    let filled = c.in_ok-fill_front.ensures in
     let ready = ready_filled source k l c.turns.pending q inv.ready filled in
     let r = c.take_least.new.self in
     let t = c.in-Some.next in
@@ -138,7 +138,7 @@ add_all_extended-requires-clause-low g c =
     let source = c.args.source in
     let k = c.args.k in
     let q = c.fill_front.new.self in
-    let filled = subst (λ (s : Listing). IsFilled (tree_of s) c.turns.pending q) c.settled-in-turns.view_is c.in_ok-fill_front.ensures in
+    let filled = c.in_ok-fill_front.ensures in
     let ready = ready_filled source k l c.turns.pending q inv.ready filled in
     let r = c.take_least.new.self in
     let t = c.in-Some.next in
@@ -158,7 +158,7 @@ turns-preserved g c =
     let source = c.args.source in
     let k = c.args.k in
     let q = c.fill_front.new.self in
-    let filled = subst (λ (s : Listing). IsFilled (tree_of s) c.turns.pending q) c.settled-in-turns.view_is c.in_ok-fill_front.ensures in
+    let filled = c.in_ok-fill_front.ensures in
     let ready = ready_filled source k l c.turns.pending q inv.ready filled in
     let r = c.take_least.new.self in
     let t = c.in-Some.next in
@@ -173,7 +173,7 @@ turns-smaller g c =
     let source = c.args.source in
     let k = c.args.k in
     let q = c.fill_front.new.self in
-    let filled = subst (λ (s : Listing). IsFilled (tree_of s) c.turns.pending q) c.settled-in-turns.view_is c.in_ok-fill_front.ensures in
+    let filled = c.in_ok-fill_front.ensures in
     let ready = ready_filled source k l c.turns.pending q inv.ready filled in
     let r = c.take_least.new.self in
     let t = c.in-Some.next in
@@ -181,7 +181,7 @@ turns-smaller g c =
     let w = told_by (tree_of l) t in
     omega (
       arith,
-      length_permutation (links_of c.turns.pending) (links_of q) filled.same,
+      filled.sifted.fewer,
       first.takes.shorter,
       length-map (links_of q) (told_by (tree_of l)),
       length-map (links_of r) (told_by (tree_of l)),
@@ -195,7 +195,7 @@ turns-preserved-then-is_new g c =
     let source = c.args.source in
     let k = c.args.k in
     let q = c.fill_front.new.self in
-    let filled = subst (λ (s : Listing). IsFilled (tree_of s) c.turns.pending q) c.settled-in-turns.view_is c.in_ok-fill_front.ensures in
+    let filled = c.in_ok-fill_front.ensures in
     let ready = ready_filled source k l c.turns.pending q inv.ready filled in
     let r = c.take_least.new.self in
     let t = c.in-Some.next in
@@ -234,7 +234,7 @@ turns-smaller-then-is_new g c =
     let source = c.args.source in
     let k = c.args.k in
     let q = c.fill_front.new.self in
-    let filled = subst (λ (s : Listing). IsFilled (tree_of s) c.turns.pending q) c.settled-in-turns.view_is c.in_ok-fill_front.ensures in
+    let filled = c.in_ok-fill_front.ensures in
     let ready = ready_filled source k l c.turns.pending q inv.ready filled in
     let r = c.take_least.new.self in
     let t = c.in-Some.next in
@@ -270,7 +270,7 @@ turns-smaller-then-is_new g c =
       count,
       larger,
       open_fewer (grown_by l w).walks k ms,
-      length_permutation (links_of c.turns.pending) (links_of q) filled.same,
+      filled.sifted.fewer,
       first.takes.shorter,
       length-map (links_of q) (told_by (tree_of l)),
       length-map (links_of r) (told_by (tree_of l)),
