@@ -109,11 +109,11 @@ impl Placed<'_> {
             Grouping::Bound => bound_key(alloc, variable.kind, self.row.get(variable.var)),
             Grouping::EachRow => {
                 let schema = setting.table.schema().as_slice();
-                Ok(Some(key_of(cells(alloc, schema, self.row)?)))
+                Ok(Some(row_key(alloc, schema, self.row)?))
             }
             Grouping::Walk => walk_key(alloc, self.row.get(variable.var)),
             Grouping::Terms(_) => {
-                let mut parts = Vec::with_capacity(alloc, readers.len())?;
+                let mut parts = KeyParts::with_room(alloc, readers.len())?;
                 self.read(readers, &mut parts, steps)?;
                 Ok(whole(parts))
             }
@@ -123,7 +123,7 @@ impl Placed<'_> {
                 terms: _,
             } => {
                 let room = readers.len().saturating_add(2);
-                let mut parts = Vec::with_capacity(alloc, room)?;
+                let mut parts = KeyParts::with_room(alloc, room)?;
                 parts.push(end_part(self.ends.source, self.place)?)?;
                 parts.push(end_part(self.ends.target, self.place)?)?;
                 self.read(readers, &mut parts, steps)?;
@@ -136,10 +136,10 @@ impl Placed<'_> {
     fn read<L: Ledger>(
         &self,
         readers: &[Reader<'_>],
-        parts: &mut Vec<Option<Datum>>,
+        parts: &mut KeyParts,
         steps: &mut Steps<L>,
     ) -> Result<(), Memory>
-        ensures { OnOk result (parts.new.items ≡ parts.old.items ++ map (term_part (on_row self.now.setting.now self.now.row.now)) readers.now) }
+        ensures { OnOk result (parts.new ≡ parts.old ++ map (term_part (on_row self.now.setting.now self.now.row.now)) readers.now) }
     {
         for reader in readers {
             parts.push(reader.part(self.setting, self.row, steps)?)?;
@@ -213,23 +213,25 @@ fn walk_key(alloc: Global, datum: Option<&Datum>) -> Result<Option<Key>, Memory>
 fn single_key(alloc: Global, datum: &Datum) -> Result<Option<Key>, Memory>
     ensures { IfOk result (λ key. key ≡ single_key datum.now) }
 {
-    let mut parts = Vec::with_capacity(alloc, 1)?;
+    let mut parts = KeyParts::with_room(alloc, 1)?;
     parts.push(Some(datum.copy()?))?;
-    Ok(Some(key_of(parts)))
+    Ok(Some(Key { parts }))
 }
 
 /// The key that is a whole row.
 pub(crate) fn row_key(alloc: Global, schema: &[Sym], row: &Row) -> Result<Key, Memory>
     ensures { IfOk result (λ key. key ≡ row_key schema.now row.now) }
 {
-    Ok(key_of(cells(alloc, schema, row)?))
+    Ok(Key {
+        parts: cells(alloc, schema, row)?,
+    })
 }
 
 // What the variables of a schema stand for in a row.
-fn cells(alloc: Global, schema: &[Sym], row: &Row) -> Result<Vec<Option<Datum>>, Memory>
-    ensures { IfOk result (λ parts. parts.items ≡ cells schema.now row.now) }
+fn cells(alloc: Global, schema: &[Sym], row: &Row) -> Result<KeyParts, Memory>
+    ensures { IfOk result (λ parts. parts ≡ cells schema.now row.now) }
 {
-    let mut parts = Vec::with_capacity(alloc, schema.len())?;
+    let mut parts = KeyParts::with_room(alloc, schema.len())?;
     for var in schema {
         parts.push(copied(row.get(*var))?)?;
     }
@@ -246,11 +248,11 @@ fn copied(datum: Option<&Datum>) -> Result<Option<Datum>, Memory>
 }
 
 // The key of parts that are all there.
-fn whole(parts: Vec<Option<Datum>>) -> Option<Key>
-    ensures { result ≡ whole parts.items }
+fn whole(parts: KeyParts) -> Option<Key>
+    ensures { result ≡ whole parts }
 {
-    if are_there(&parts) {
-        Some(key_of(parts))
+    if are_there(parts.as_slice()) {
+        Some(Key { parts })
     } else {
         None
     }
@@ -260,12 +262,4 @@ fn are_there(parts: &[Option<Datum>]) -> bool
     ensures { result ≡ list_all is_some parts.now }
 {
     parts.iter().all(|part| part.is_some())
-}
-
-fn key_of(parts: Vec<Option<Datum>>) -> Key
-    ensures { result ≡ record { parts = parts.items } }
-{
-    Key {
-        parts: KeyParts::from_vec(parts),
-    }
 }

@@ -1,8 +1,8 @@
 ghost use Rattle.std.specs.Prelude.{◌≡◌, IfOk};
 ghost use Rattle.gc_group.specs.Groups.{key_order};
 
-use gc_base::{Duplicate, Memory, Sequence};
-use gc_rows::Datum;
+use crate::key_parts::KeyParts;
+use gc_base::Memory;
 use std::alloc::Global;
 use std::cmp::Ordering;
 
@@ -13,16 +13,13 @@ pub struct Key {
     pub parts: KeyParts,
 }
 
-/// The parts of a key.
-pub type KeyParts = Sequence<Option<Datum>>;
-
 impl Key {
     /// A copy from the given allocator.
     pub(crate) fn copied(&self, alloc: Global) -> Result<Key, Memory>
         ensures { IfOk result (λ copied. copied ≡ self.now) }
     {
         Ok(Key {
-            parts: KeyParts::from_vec(copied_parts(alloc, self.parts.as_slice())?),
+            parts: self.parts.copied(alloc)?,
         })
     }
 }
@@ -32,23 +29,4 @@ pub(crate) fn key_cmp(a: &Key, b: &Key) -> Ordering
     ensures { result ≡ key_order a.now b.now }
 {
     a.parts.as_slice().cmp(b.parts.as_slice())
-}
-
-fn copied_parts(alloc: Global, parts: &[Option<Datum>]) -> Result<Vec<Option<Datum>>, Memory>
-    ensures { IfOk result (λ copied. copied.items ≡ parts.now) }
-{
-    let mut copied = Vec::with_capacity(alloc, parts.len())?;
-    for part in parts {
-        copied.push(copied_part(part)?)?;
-    }
-    Ok(copied)
-}
-
-fn copied_part(part: &Option<Datum>) -> Result<Option<Datum>, Memory>
-    ensures { IfOk result (λ copied. copied ≡ part.now) }
-{
-    match part {
-        None => Ok(None),
-        Some(datum) => Ok(Some(datum.copy()?)),
-    }
 }

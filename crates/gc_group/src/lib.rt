@@ -8,8 +8,10 @@ mod folds;
 mod grouping;
 mod held;
 mod key;
+mod key_parts;
 mod listed;
 
 pub use folds::fold;
 pub use grouping::{Group, RowNumbers, groups};
-pub use key::{Key, KeyParts};
+pub use key::Key;
+pub use key_parts::KeyParts;
