@@ -58,6 +58,10 @@ impl<T: Element + Drop> ById<T> {
         ensures element { option_copied result ≡ find (λ x. T.id_of x == id) self.now }
         ensures ascends { Ascends (on T.id_of nat_cmp) self.now }
     {
+        // A map without entries would hash the identity all the same.
+        if self.others.is_empty() {
+            return find(&self.ascending, id);
+        }
         match self.others.get(&id) {
             Some(element) => Some(element),
             None => find(&self.ascending, id),
