@@ -11,3 +11,12 @@ pub mod RuleRows
 pub mod RuleTrees
 pub mod Readings
 pub mod ReadLaws
+pub mod ListSteps
+pub mod NthRows
+pub mod NextLaws
+pub mod BlockingLaws
+pub mod FirstSorts
+pub mod FollowLaws
+pub mod PartSorts
+pub mod ReadBlocks
+pub mod WayLaws

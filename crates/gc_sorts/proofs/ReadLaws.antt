@@ -5,15 +5,15 @@ use Rattle.std.specs.Option.{option_or}
 use Rattle.indexmap.specs.IndexMap.{insert_entry}
 use Rattle.std.proofs.lemmas.Bool.Decides.{eqb_tells}
 use Rattle.gc_sorts.specs.Collected.{Collected, collect, nothing, number_of, with_first, with_number}
-use Rattle.gc_sorts.specs.Occurrences.{Occurrence, Occurrences, GraphName, ViewName, Unnamed, none, one, both}
+use Rattle.gc_sorts.specs.Occurrences.{Occurrences, GraphName, ViewName, Unnamed, none, one, both}
 use Rattle.gc_sorts.specs.Reads.{graph_at, view_at, hidden_from, unnamed_count}
 use Rattle.gc_sorts.specs.Scopes.{graph_number, view_number}
 
-or_none : (o : Option ℕ) → option_or o None ≡ o
+pub or_none : (o : Option ℕ) → option_or o None ≡ o
 or_none None = refl
 or_none (Some n) = refl
 
-or_assoc : (a b c : Option ℕ) → option_or (option_or a b) c ≡ option_or a (option_or b c)
+pub or_assoc : (a b c : Option ℕ) → option_or (option_or a b) c ≡ option_or a (option_or b c)
 or_assoc None b c = refl
 or_assoc (Some n) b c = refl
 
@@ -21,7 +21,7 @@ or_some : (a b : Option ℕ) → is_some a ≡ true → option_or a b ≡ a
 or_some None b h = cc
 or_some (Some n) b h = refl
 
-abbrev told : ℕ → ℕ → ℕ → Option ℕ
+abbrev pub told : ℕ → ℕ → ℕ → Option ℕ
 told token at number = if nat_eq token at then Some number else None
 
 -- a pair that is put in behind the others
@@ -45,7 +45,7 @@ inserted (e ∷ pairs) at number token absent = by (λ gone. inserted pairs at n
     by rest false other gone = later (nat_eq token e.0) refl (rest gone)
 
 -- the number of a token, where another one was given a number unless it had one
-first_told : (pairs : List (ℕ × ℕ)) (at number token : ℕ) → number_of (with_first pairs at number) token ≡ option_or (number_of pairs token) (told token at number)
+pub first_told : (pairs : List (ℕ × ℕ)) (at number token : ℕ) → number_of (with_first pairs at number) token ≡ option_or (number_of pairs token) (told token at number)
 first_told pairs at number token = by (is_some (number_of pairs at)) refl
   where
     by : (b : Bool) → is_some (number_of pairs at) ≡ b → number_of (if b then pairs else insert_entry nat_eq pairs at number) token ≡ option_or (number_of pairs token) (told token at number)

@@ -1,9 +1,11 @@
+pub mod BlockTokens
 pub mod Blocks
 pub mod Breaches
 pub mod Checks
 pub mod Collected
 pub mod Constructs
 pub mod Expressions
+pub mod FileBlocks
 pub mod Graphs
 pub mod Holders
 pub mod LinkKeys
@@ -19,3 +21,4 @@ pub mod Sizes
 pub mod SortRules
 pub mod Uses
 pub mod Variables
+pub mod Ways

@@ -1,6 +1,7 @@
 -- Variables: the places at which they stand, and what they stand for.
 use Rattle.std.specs.Prelude.{ℕ, List, Bool, true, false, Option, map, is_some}
 use Rattle.std.specs.List.{find, filter, list_any}
+use Rattle.std.specs.Option.{option_map}
 use Rattle.gc_expr.specs.Views.{Names, name_of}
 use Rattle.gc_ast.specs.Names.{same_name}
 use Rattle.gc_sorts.specs.declared.sort.Sort.{Sort}
@@ -53,6 +54,10 @@ use_names uses = map (λ u. u.name) uses
 -- the first place of a name
 abbrev pub first_use : List Use → List ℕ → Option Use
 first_use uses name = find (λ u. same_name name u.name) uses
+
+-- the sort of a name, which is that of its first place
+abbrev pub first_sort : List Use → List ℕ → Option Sort
+first_sort uses name = option_map (λ u. sort_of u.role) (first_use uses name)
 
 -- whether a name has a place
 abbrev pub has_use : List Use → List ℕ → Bool

@@ -1,266 +1,195 @@
 ghost use Rattle.std.specs.Prelude.{◌≡◌, ◌++◌, ◌∷◌, [], map, IfOk, OnOk};
-ghost use Rattle.std.specs.Option.{option_map};
-ghost use Rattle.gc_ast.specs.PatternViews.{pattern_tree};
-ghost use Rattle.gc_ast.specs.QueryViews.{query_tree, head_tree, term_tree, next_term_tree, basic_tree, block_tree, optional_tree, formula_tree, statement_tree, file_trees};
-ghost use Rattle.gc_ast.specs.Trees.{row, rows, maybe};
-ghost use Rattle.gc_sorts.specs.Blocks.{AddsBlocks, file_blocks, places_by};
-ghost use Rattle.gc_sorts.specs.SortRules.{match_uses};
-ghost use Rattle.gc_sorts.specs.Uses.{all_of, optional_uses, pattern_uses};
+ghost use Rattle.gc_expr.specs.Views.{Names};
+ghost use Rattle.gc_ast.specs.QueryViews.{basic_tree, block_tree, file_trees, head_tree, next_term_tree, optional_tree, query_tree, statement_tree, term_tree};
+ghost use Rattle.gc_ast.specs.Trees.{row};
+ghost use Rattle.gc_sorts.specs.Ways.{basic_ways, exists_ways, file_ways, head_ways, later_ways, of_head, optional_ways, part_ways, query_ways, statement_ways, term_ways, with_ways, asked};
+ghost use Rattle.gc_sorts.specs.declared.step.Step.TheVariants as to;
 
-use crate::block_sorts::BlockSorts;
-use crate::uses::{add_block, add_chains, add_located};
-use crate::variables::Variables;
+use crate::step::Step;
+use crate::way_walk::{WayList, WayWalk};
 use gc_ast::{
-    Basic, ChainList, File, Formula, Head, HeadList, MatchBlock, NextTerm, NextTermList,
-    OptionalBlock, OptionalList, Query, QueryList, Statement, StatementList, Term,
+    Basic, File, Head, HeadList, MatchBlock, NextTermList, OptionalList, Query, QueryList,
+    Statement, StatementList, Term,
 };
 use gc_base::Memory;
 use std::alloc::Global;
 
-// Adds the block of a view.
-fn view(sorts: &mut BlockSorts, seen: &mut Variables, chains: &ChainList) -> Result<(), Memory>
-    ensures seen { OnOk result (seen.new ≡ seen.old) }
-    ensures sorts { OnOk result (places_by seen.old.names sorts.new ≡ places_by seen.old.names sorts.old ++
-        (seen.old.uses ++ all_of (all_of pattern_uses) (rows (map (λ c. map (pattern_tree seen.old.names) c.parts) chains.now))) ∷ []) }
+// A number in a way. One that does not fit is want of memory.
+fn number(place: usize) -> Result<u32, Memory>
+    ensures { IfOk result (λ n. n ≡ place) }
 {
-    let mark = seen.len();
-    add_chains(seen, chains)?;
-    sorts.push(seen)?;
-    seen.cut(mark);
-    Ok(())
+    if place > u32::MAX as usize {
+        return Err(Memory);
+    }
+    Ok(place as u32)
 }
 
-// Adds the places of an OPTIONAL block.
-#[tactic(auto, unfolding(gc_ast::specs::QueryViews::optional_by, gc_ast::specs::QueryViews::block_by))]
-fn add_optional(seen: &mut Variables, optional: &OptionalBlock) -> Result<(), Memory>
-    ensures names { seen.new.names ≡ seen.old.names }
-    ensures uses { OnOk result (seen.new.uses ≡ seen.old.uses ++ optional_uses (optional_tree seen.old.names optional.now)) }
+#[tactic(auto, unfolding(crate::specs::Ways::query_ways))]
+#[cycle(blocking)]
+fn query(walk: &mut WayWalk, query: &Query) -> Result<(), Memory>
+    ensures here { OnOk result (walk.new.here ≡ walk.old.here) }
+    ensures ways { OnOk result ((names : Names) → walk.new.ways ≡ with_ways walk.old.ways (query_ways walk.old.here (query_tree names query.now))) }
 {
-    add_block(seen, &optional.block)
+    heads(walk, &query.heads)?;
+    term_at(walk, 0, &query.first)?;
+    rest(walk, &query.rest)
 }
 
-// Adds the places of OPTIONAL blocks.
-fn add_optionals(seen: &mut Variables, optionals: &OptionalList) -> Result<(), Memory>
-    ensures names { seen.new.names ≡ seen.old.names }
-    ensures uses { OnOk result (seen.new.uses ≡ seen.old.uses ++ all_of optional_uses (row (map (optional_tree seen.old.names) optionals.now.items))) }
+#[tactic(auto, unfolding(crate::specs::Ways::query_ways))]
+#[cycle(blocking)]
+fn heads(walk: &mut WayWalk, heads: &HeadList) -> Result<(), Memory>
+    ensures here { OnOk result (walk.new.here ≡ walk.old.here) }
+    ensures ways { OnOk result ((names : Names) → walk.new.ways ≡ with_ways walk.old.ways (head_ways walk.old.here 0 (row (map (head_tree names) heads.now.items)))) }
 {
-    for one in optionals {
-        add_optional(seen, one)?;
+    let depth = walk.depth();
+    for (i, one) in heads.iter().enumerate() {
+        walk.go(Step::Head(number(i)?))?;
+        head(walk, one)?;
+        walk.back_to(depth);
     }
     Ok(())
 }
 
-// Adds the block of a MATCH with its OPTIONAL blocks.
-fn whole(
-    sorts: &mut BlockSorts,
-    seen: &mut Variables,
-    main: &MatchBlock,
-    optionals: &OptionalList,
-) -> Result<(), Memory>
-    ensures seen { OnOk result (seen.new ≡ seen.old) }
-    ensures sorts { OnOk result (places_by seen.old.names sorts.new ≡ places_by seen.old.names sorts.old ++ match_uses seen.old.uses
-        (block_tree seen.old.names main.now) (row (map (optional_tree seen.old.names) optionals.now.items)) ∷ []) }
-{
-    let mark = seen.len();
-    add_block(seen, main)?;
-    add_optionals(seen, optionals)?;
-    sorts.push(seen)?;
-    seen.cut(mark);
-    Ok(())
-}
-
-#[tactic(auto, unfolding(crate::specs::Blocks::blocks))]
+#[tactic(auto, unfolding(crate::specs::Ways::query_ways, gc_ast::specs::QueryViews::head_by, gc_ast::specs::QueryViews::query_by, gc_ast::specs::QueryViews::formula_by))]
 #[cycle(blocking)]
-fn query(sorts: &mut BlockSorts, seen: &mut Variables, query: &Query) -> Result<(), Memory>
-    ensures seen { OnOk result (seen.new ≡ seen.old) }
-    ensures sorts { OnOk result (AddsBlocks seen.old (λ n. query_tree n query.now) sorts.old sorts.new) }
-{
-    heads(sorts, seen, &query.heads)?;
-    term(sorts, seen, &query.first)?;
-    rest(sorts, seen, &query.rest)
-}
-
-#[tactic(auto, unfolding(crate::specs::Blocks::blocks))]
-#[cycle(blocking)]
-fn heads(sorts: &mut BlockSorts, seen: &mut Variables, heads: &HeadList) -> Result<(), Memory>
-    ensures seen { OnOk result (seen.new ≡ seen.old) }
-    ensures sorts { OnOk result (AddsBlocks seen.old (λ n. row (map (head_tree n) heads.now.items)) sorts.old sorts.new) }
-{
-    for one in heads {
-        head(sorts, seen, one)?;
-    }
-    Ok(())
-}
-
-#[tactic(auto, unfolding(gc_ast::specs::QueryViews::head_by, gc_ast::specs::QueryViews::query_by, gc_ast::specs::QueryViews::formula_by, crate::specs::Blocks::blocks))]
-#[cycle(blocking)]
-fn head(sorts: &mut BlockSorts, seen: &mut Variables, head: &Head) -> Result<(), Memory>
-    ensures seen { OnOk result (seen.new ≡ seen.old) }
-    ensures sorts { OnOk result (AddsBlocks seen.old (λ n. head_tree n head.now) sorts.old sorts.new) }
+fn head(walk: &mut WayWalk, head: &Head) -> Result<(), Memory>
+    ensures here { OnOk result (walk.new.here ≡ walk.old.here) }
+    ensures ways { OnOk result ((names : Names) → walk.new.ways ≡ with_ways walk.old.ways (of_head walk.old.here (head_tree names head.now))) }
 {
     match head {
         Head::Graph {
             query: declared,
             ..
-        } => query(sorts, seen, declared),
-        Head::Path { chains, .. } => view(sorts, seen, chains),
+        } => query(walk, declared),
+        Head::Path { .. } => walk.arrive(),
     }
 }
 
-#[tactic(auto, unfolding(crate::specs::Blocks::blocks))]
+#[tactic(auto, unfolding(crate::specs::Ways::query_ways, gc_ast::specs::QueryViews::next_term_by, gc_ast::specs::QueryViews::term_by))]
 #[cycle(blocking)]
-fn rest(sorts: &mut BlockSorts, seen: &mut Variables, rest: &NextTermList) -> Result<(), Memory>
-    ensures seen { OnOk result (seen.new ≡ seen.old) }
-    ensures sorts { OnOk result (AddsBlocks seen.old (λ n. row (map (next_term_tree n) rest.now.items)) sorts.old sorts.new) }
+fn rest(walk: &mut WayWalk, rest: &NextTermList) -> Result<(), Memory>
+    ensures here { OnOk result (walk.new.here ≡ walk.old.here) }
+    ensures ways { OnOk result ((names : Names) → walk.new.ways ≡ with_ways walk.old.ways (later_ways walk.old.here 1 (row (map (next_term_tree names) rest.now.items)))) }
 {
-    for next in rest {
-        next_term(sorts, seen, next)?;
+    for (i, next) in rest.iter().enumerate() {
+        term_at(walk, number(i + 1)?, &next.term)?;
     }
     Ok(())
 }
 
-#[tactic(auto, unfolding(gc_ast::specs::QueryViews::next_term_by, gc_ast::specs::QueryViews::term_by, crate::specs::Blocks::blocks))]
+// A term of a number.
 #[cycle(blocking)]
-fn next_term(sorts: &mut BlockSorts, seen: &mut Variables, next: &NextTerm) -> Result<(), Memory>
-    ensures seen { OnOk result (seen.new ≡ seen.old) }
-    ensures sorts { OnOk result (AddsBlocks seen.old (λ n. next_term_tree n next.now) sorts.old sorts.new) }
+fn term_at(walk: &mut WayWalk, number: u32, one: &Term) -> Result<(), Memory>
+    ensures here { OnOk result (walk.new.here ≡ walk.old.here) }
+    ensures ways { OnOk result ((names : Names) → walk.new.ways
+        ≡ with_ways walk.old.ways (term_ways (walk.old.here ++ to.Term number ∷ []) (term_tree names one.now))) }
 {
-    term(sorts, seen, &next.term)
+    let depth = walk.depth();
+    walk.go(Step::Term(number))?;
+    term(walk, one)?;
+    walk.back_to(depth);
+    Ok(())
 }
 
-#[tactic(auto, unfolding(gc_ast::specs::QueryViews::term_by, gc_ast::specs::QueryViews::basic_by, gc_ast::specs::QueryViews::query_by, crate::specs::Blocks::blocks))]
+#[tactic(auto, unfolding(crate::specs::Ways::query_ways, gc_ast::specs::QueryViews::term_by, gc_ast::specs::QueryViews::basic_by, gc_ast::specs::QueryViews::query_by))]
 #[cycle(blocking)]
-fn term(sorts: &mut BlockSorts, seen: &mut Variables, term: &Term) -> Result<(), Memory>
-    ensures seen { OnOk result (seen.new ≡ seen.old) }
-    ensures sorts { OnOk result (AddsBlocks seen.old (λ n. term_tree n term.now) sorts.old sorts.new) }
+fn term(walk: &mut WayWalk, term: &Term) -> Result<(), Memory>
+    ensures here { OnOk result (walk.new.here ≡ walk.old.here) }
+    ensures ways { OnOk result ((names : Names) → walk.new.ways ≡ with_ways walk.old.ways (term_ways walk.old.here (term_tree names term.now))) }
 {
     match term {
-        Term::Basic(one) => basic(sorts, seen, one),
+        Term::Basic(one) => basic(walk, one),
         Term::Graph(_) => Ok(()),
-        Term::Query(inner) => query(sorts, seen, inner),
+        Term::Query(inner) => query(walk, inner),
     }
 }
 
-#[tactic(auto, unfolding(crate::specs::Blocks::blocks))]
+#[tactic(auto, unfolding(crate::specs::Ways::query_ways))]
 #[cycle(blocking)]
-fn basic(sorts: &mut BlockSorts, seen: &mut Variables, basic: &Basic) -> Result<(), Memory>
-    ensures seen { OnOk result (seen.new ≡ seen.old) }
-    ensures sorts { OnOk result (AddsBlocks seen.old (λ n. basic_tree n basic.now) sorts.old sorts.new) }
+fn basic(walk: &mut WayWalk, basic: &Basic) -> Result<(), Memory>
+    ensures here { OnOk result (walk.new.here ≡ walk.old.here) }
+    ensures ways { OnOk result ((names : Names) → walk.new.ways ≡ with_ways walk.old.ways (basic_ways walk.old.here (basic_tree names basic.now))) }
 {
-    whole(sorts, seen, &basic.main, &basic.optionals)?;
-    block(sorts, seen, &basic.main)?;
-    optionals(sorts, seen, &basic.optionals)
+    walk.arrive()?;
+    part(walk, 0, &basic.main)?;
+    optionals(walk, &basic.optionals)
 }
 
-#[tactic(auto, unfolding(crate::specs::Blocks::blocks))]
+#[tactic(auto, unfolding(crate::specs::Ways::query_ways, gc_ast::specs::QueryViews::optional_by, gc_ast::specs::QueryViews::block_by))]
 #[cycle(blocking)]
-fn optionals(
-    sorts: &mut BlockSorts,
-    seen: &mut Variables,
-    optionals: &OptionalList,
-) -> Result<(), Memory>
-    ensures seen { OnOk result (seen.new ≡ seen.old) }
-    ensures sorts { OnOk result (AddsBlocks seen.old (λ n. row (map (optional_tree n) optionals.now.items)) sorts.old sorts.new) }
+fn optionals(walk: &mut WayWalk, optionals: &OptionalList) -> Result<(), Memory>
+    ensures here { OnOk result (walk.new.here ≡ walk.old.here) }
+    ensures ways { OnOk result ((names : Names) → walk.new.ways
+        ≡ with_ways walk.old.ways (optional_ways walk.old.here 1 (row (map (optional_tree names) optionals.now.items)))) }
 {
-    for one in optionals {
-        optional(sorts, seen, one)?;
+    for (i, one) in optionals.iter().enumerate() {
+        part(walk, number(i + 1)?, &one.block)?;
     }
     Ok(())
 }
 
-#[tactic(auto, unfolding(gc_ast::specs::QueryViews::optional_by, gc_ast::specs::QueryViews::block_by, crate::specs::Blocks::blocks))]
+#[tactic(auto, unfolding(crate::specs::Ways::query_ways))]
 #[cycle(blocking)]
-fn optional(
-    sorts: &mut BlockSorts,
-    seen: &mut Variables,
-    optional: &OptionalBlock,
-) -> Result<(), Memory>
-    ensures seen { OnOk result (seen.new ≡ seen.old) }
-    ensures sorts { OnOk result (AddsBlocks seen.old (λ n. optional_tree n optional.now) sorts.old sorts.new) }
+fn part(walk: &mut WayWalk, part: u32, block: &MatchBlock) -> Result<(), Memory>
+    ensures here { OnOk result (walk.new.here ≡ walk.old.here) }
+    ensures ways { OnOk result ((names : Names) → walk.new.ways ≡ with_ways walk.old.ways (part_ways walk.old.here part (block_tree names block.now))) }
 {
-    block(sorts, seen, &optional.block)
-}
-
-#[tactic(auto, unfolding(crate::specs::Blocks::blocks))]
-#[cycle(blocking)]
-fn block(sorts: &mut BlockSorts, seen: &mut Variables, block: &MatchBlock) -> Result<(), Memory>
-    ensures seen { OnOk result (seen.new ≡ seen.old) }
-    ensures sorts { OnOk result (AddsBlocks seen.old (λ n. block_tree n block.now) sorts.old sorts.new) }
-{
-    let mark = seen.len();
-    add_located(seen, &block.patterns)?;
-    filter(sorts, seen, &block.filter)?;
-    seen.cut(mark);
-    Ok(())
-}
-
-#[tactic(auto, unfolding(gc_ast::specs::QueryViews::formula_by, gc_ast::specs::QueryViews::query_by, crate::specs::Blocks::blocks))]
-#[cycle(blocking)]
-fn filter(
-    sorts: &mut BlockSorts,
-    seen: &mut Variables,
-    filter: &Option<Formula>,
-) -> Result<(), Memory>
-    ensures seen { OnOk result (seen.new ≡ seen.old) }
-    ensures sorts { OnOk result (AddsBlocks seen.old (λ n. maybe (option_map (formula_tree n) filter.now)) sorts.old sorts.new) }
-{
-    match filter {
+    match &block.filter {
         None => Ok(()),
-        Some(formula) => queries(sorts, seen, &formula.exists),
+        Some(formula) => queries(walk, part, &formula.exists),
     }
 }
 
-#[tactic(auto, unfolding(crate::specs::Blocks::blocks))]
+#[tactic(auto, unfolding(crate::specs::Ways::query_ways))]
 #[cycle(blocking)]
-fn queries(sorts: &mut BlockSorts, seen: &mut Variables, queries: &QueryList) -> Result<(), Memory>
-    ensures seen { OnOk result (seen.new ≡ seen.old) }
-    ensures sorts { OnOk result (AddsBlocks seen.old (λ n. row (map (query_tree n) queries.now.items)) sorts.old sorts.new) }
+fn queries(walk: &mut WayWalk, part: u32, queries: &QueryList) -> Result<(), Memory>
+    ensures here { OnOk result (walk.new.here ≡ walk.old.here) }
+    ensures ways { OnOk result ((names : Names) → walk.new.ways
+        ≡ with_ways walk.old.ways (exists_ways walk.old.here part 0 (row (map (query_tree names) queries.now.items)))) }
 {
-    for one in queries {
-        query(sorts, seen, one)?;
+    let depth = walk.depth();
+    for (i, one) in queries.iter().enumerate() {
+        walk.go(Step::Exists {
+            part,
+            query: number(i)?,
+        })?;
+        query(walk, one)?;
+        walk.back_to(depth);
     }
     Ok(())
 }
 
-#[tactic(auto, unfolding(crate::specs::Blocks::blocks))]
-fn statement(
-    sorts: &mut BlockSorts,
-    seen: &mut Variables,
-    statement: &Statement,
-) -> Result<(), Memory>
-    ensures seen { OnOk result (seen.new ≡ seen.old) }
-    ensures sorts { OnOk result (AddsBlocks seen.old (λ n. statement_tree n statement.now) sorts.old sorts.new) }
+fn statement(walk: &mut WayWalk, statement: &Statement) -> Result<(), Memory>
+    ensures here { OnOk result (walk.new.here ≡ walk.old.here) }
+    ensures ways { OnOk result ((names : Names) → walk.new.ways ≡ with_ways walk.old.ways (query_ways walk.old.here (asked (statement_tree names statement.now)))) }
 {
     match statement {
         Statement::View {
             query: declared,
             ..
-        } => query(sorts, seen, declared),
-        Statement::Ask(asked) => query(sorts, seen, asked),
+        } => query(walk, declared),
+        Statement::Ask(asked) => query(walk, asked),
     }
 }
 
-#[tactic(auto, unfolding(crate::specs::Blocks::blocks))]
-fn statements(
-    sorts: &mut BlockSorts,
-    seen: &mut Variables,
-    all: &StatementList,
-) -> Result<(), Memory>
-    ensures seen { OnOk result (seen.new ≡ seen.old) }
-    ensures sorts { OnOk result (AddsBlocks seen.old (λ n. row (map (statement_tree n) all.now.items)) sorts.old sorts.new) }
+#[tactic(auto, unfolding(crate::specs::Ways::statement_ways))]
+fn statements(walk: &mut WayWalk, all: &StatementList) -> Result<(), Memory>
+    requires { walk.old.here ≡ [] }
+    ensures { OnOk result ((names : Names) → walk.new.ways ≡ with_ways walk.old.ways (statement_ways 0 (row (map (statement_tree names) all.now.items)))) }
 {
-    for one in all {
-        statement(sorts, seen, one)?;
+    for (i, one) in all.iter().enumerate() {
+        walk.go(Step::Statement(number(i)?))?;
+        statement(walk, one)?;
+        walk.back_to(0);
     }
     Ok(())
 }
 
-/// The blocks of a file.
-pub(crate) fn blocks_in(alloc: Global, file: &File) -> Result<BlockSorts, Memory>
-    ensures { IfOk result (λ sorts. places_by file.now.names sorts ≡ file_blocks (row (file_trees file.now))) }
+/// The ways to the blocks of a file.
+pub(crate) fn ways_in(alloc: Global, file: &File) -> Result<WayList, Memory>
+    ensures { IfOk result (λ ways. map (λ way. way.items) ways ≡ file_ways (row (file_trees file.now))) }
 {
-    let mut sorts = BlockSorts::new(alloc);
-    let mut seen = Variables::of(alloc, &file.names)?;
-    statements(&mut sorts, &mut seen, &file.statements)?;
-    Ok(sorts)
+    let mut walk = WayWalk::new(alloc);
+    statements(&mut walk, &file.statements)?;
+    Ok(walk.ways())
 }

@@ -1,20 +1,24 @@
-ghost use Rattle.std.specs.Prelude.{◌≡◌, length, None, Some, Ok, Err, IfOk};
+ghost use Rattle.std.specs.Prelude.{◌≡◌, [], length, map, None, Some, Ok, Err, IfOk};
 ghost use Rattle.gc_ast.specs.QueryViews.{file_trees};
 ghost use Rattle.gc_ast.specs.Trees.{row};
 ghost use Rattle.gc_sorts.specs.SortRules.{first_breach};
-ghost use Rattle.gc_sorts.specs.Blocks.{file_blocks, places_by};
+ghost use Rattle.gc_sorts.specs.BlockTokens.{with_tokens};
+ghost use Rattle.gc_sorts.specs.Blocks.{file_blocks};
 ghost use Rattle.gc_sorts.specs.Collected.{collect, nothing};
 ghost use Rattle.gc_sorts.specs.Occurrences.{file_occurrences};
 ghost use Rattle.gc_sorts.specs.Checks.{IsChecked, token_place};
+ghost use Rattle.gc_sorts.specs.Ways.{file_ways};
 
-use crate::block_sorts::BlockSorts;
-use crate::blocking::blocks_in;
+use crate::block_tokens::block_tokens;
+use crate::blocking::ways_in;
 use crate::breach::Breach;
 use crate::checked::Checked;
 use crate::found::Found;
+use crate::numbers::TokenNumbers;
 use crate::reading::found_in;
 use crate::refusal::SortRefusal;
 use crate::statements::first_breach;
+use crate::way_walk::WayList;
 use gc_ast::File;
 use gc_base::{Duplicate, Memory, NameList, Place};
 use std::alloc::Global;
@@ -40,25 +44,36 @@ fn kept(alloc: Global, file: File, graphs: &NameList) -> Result<Checked, SortRef
     ensures { IsChecked file graphs.now (first_breach graphs.now (row (file_trees file))) result }
 {
     match read(alloc, &file, graphs) {
-        Ok((names, found, sorts)) => Ok(Checked::of(file, names, found, sorts)),
+        Ok(read) => Ok(Checked::of(file, read.graphs, read.found, read.ways, read.tokens)),
         Err(Memory) => Err(SortRefusal::Memory),
     }
 }
 
-// A copy of the names, what stands at the tokens of a file over graphs of these names, and its blocks.
-fn read(
-    alloc: Global,
-    file: &File,
-    graphs: &NameList,
-) -> Result<(NameList, Found, BlockSorts), Memory>
-    ensures names { IfOk result (λ all. all.0 ≡ graphs.now) }
-    ensures found { IfOk result (λ all. all.1 ≡ collect (nothing (length file.now.names)) (file_occurrences graphs.now (row (file_trees file.now)))) }
-    ensures sorts { IfOk result (λ all. places_by file.now.names all.2 ≡ file_blocks (row (file_trees file.now))) }
+// What is kept with a file: a copy of the names of the graphs, what stands at its tokens, and the ways to its blocks.
+#[derive(Drop)]
+struct Findings {
+    graphs: NameList,
+    found: Found,
+    ways: WayList,
+    tokens: TokenNumbers,
+}
+
+fn read(alloc: Global, file: &File, graphs: &NameList) -> Result<Findings, Memory>
+    ensures graphs { IfOk result (λ read. read.graphs ≡ graphs.now) }
+    ensures found { IfOk result (λ read. read.found ≡ collect (nothing (length file.now.names)) (file_occurrences graphs.now (row (file_trees file.now)))) }
+    ensures ways { IfOk result (λ read. map (λ way. way.items) read.ways ≡ file_ways (row (file_trees file.now))) }
+    ensures tokens { IfOk result (λ read. read.tokens ≡ with_tokens [] 0 (file_blocks (row (file_trees file.now)))) }
 {
-    let names = graphs.copy()?;
     let found = found_in(alloc, file, graphs)?;
-    let sorts = blocks_in(alloc, file)?;
-    Ok((names, found, sorts))
+    let graphs = graphs.copy()?;
+    let ways = ways_in(alloc, file)?;
+    let tokens = block_tokens(alloc, file, &ways)?;
+    Ok(Findings {
+        graphs,
+        found,
+        ways,
+        tokens,
+    })
 }
 
 // The place of the token of a breach.

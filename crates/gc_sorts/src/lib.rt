@@ -4,7 +4,7 @@
 #![tactic(auto)]
 
 mod basics;
-mod block_sorts;
+mod block_tokens;
 mod blocking;
 mod breach;
 mod checked;
@@ -13,6 +13,9 @@ mod checking;
 mod constructs;
 mod existence;
 mod expressions;
+mod file_block;
+mod first_sorts;
+mod following;
 mod form;
 mod found;
 mod graphs;
@@ -28,6 +31,7 @@ mod matches;
 mod numbers;
 mod occurring;
 mod patterns;
+mod reached;
 mod reading;
 mod refusal;
 mod rules;
@@ -36,13 +40,16 @@ mod sizes;
 mod sort;
 mod standing;
 mod statements;
+mod step;
 mod tokens;
 mod uses;
 mod variables;
+mod way_walk;
 
 pub use breach::{Breach, SortRule};
 pub use checked::Checked;
 pub use checking::check;
+pub use file_block::{FileBlock, PartAround};
 pub use laws::the_first_breach_is_the_first;
 pub use refusal::SortRefusal;
 pub use sort::Sort;

@@ -1,66 +1,67 @@
-use Rattle.std.proofs.Common.{◌≡◌, ◌∙◌, ◌++◌, ◌∷◌, [], ℕ, List, sym, ap, map, subst}
-use Rattle.std.specs.Prelude.{OnOk}
-use Rattle.std.specs.Option.{option_map}
-use Rattle.gc_ast.specs.declared.query.Query.{out-Query}
-use Rattle.gc_ast.specs.declared.query.Basic.{out-Basic}
-use Rattle.gc_ast.specs.declared.query.MatchBlock.{out-MatchBlock}
-use Rattle.gc_ast.specs.PatternViews.{located_tree}
-use Rattle.gc_ast.specs.QueryViews.{head_tree, term_tree, next_term_tree, optional_tree, item_tree, block_tree, formula_tree}
+use Rattle.std.proofs.Common.{◌≡◌, rules, sym, ap, ◌∙◌, arith}
+use Rattle.std.proofs.lemmas.List.{drop_all}
+use Rattle.gc_expr.specs.Views.{name_of}
+use Rattle.gc_ast.specs.declared.construct.Change.{the_lemmas}
+use Rattle.gc_ast.specs.PatternViews.{named_by}
+use Rattle.gc_ast.specs.QueryViews.{head_by, head_tree, next_term_tree, optional_tree, query_by, query_tree}
 use Rattle.gc_ast.specs.Trees as tree
-use Rattle.gc_ast.specs.Trees.{Tree, RowOf, AHead, ATerm, ANextTerm, AnItem, ABlock, AnOptional, ALocated, AFormula, row, maybe}
-use Rattle.gc_sorts.specs.Blocks.{blocks, with_blocks, places_by}
-use Rattle.gc_sorts.specs.SortRules.{match_uses}
-use Rattle.gc_sorts.specs.Uses.{all_of, located_uses}
-use Rattle.gc_sorts.specs.Variables.{Scope, Use}
-use Rattle.gc_sorts.proofs.RuleTrees.{query_of, basic_of, block_of}
+use Rattle.gc_sorts.specs.Ways.{with_ways}
+use Rattle.gc_sorts.proofs.BlockingLaws.{basic_made, basic_term, filtered, graph_head, no_filter, no_optionals, no_rest, on_ok, optionals_on, query_made, query_term, rest_on}
 use Rattle.gc_sorts.proofs.blocking.+blocking.Goals as goal
 
-query_blocks : (seen : List Use) (heads : Tree (RowOf AHead)) (first : Tree ATerm) (rest : Tree (RowOf ANextTerm)) (b0 b1 b2 : List (List Use))
-    → b1 ≡ with_blocks b0 (blocks seen heads) → b2 ≡ with_blocks b1 (blocks seen first)
-    → with_blocks b2 (blocks seen rest) ≡ with_blocks b0 (blocks seen (tree.Query heads first rest))
-unfolding blocks
-query_blocks seen heads first rest b0 b1 b2 e1 e2 = ap (λ b. with_blocks b (blocks seen rest)) (e2 ∙ ap (λ b. with_blocks b (blocks seen first)) e1)
+pub query-returns-clause-ways : goal.query-returns-clause-ways
+query-returns-clause-ways t c =
+    on_ok c.rest.result
+    (λ made names. query_made names c.args.query.now c.args.walk.now.here c.heads.new.walk.here c.term_at.new.walk.here c.args.walk.now.ways c.heads.new.walk.ways c.term_at.new.walk.ways c.rest.new.walk.ways
+    c.in_ok-heads.ensures.here c.in_ok-term_at.ensures.here (c.in_ok-heads.ensures.ways names) (c.in_ok-term_at.ensures.ways names) (made names)) c.rest.ensures.ways
 
-basic_blocks : (seen : List Use) (token : ℕ) (items : Tree (RowOf AnItem)) (main : Tree ABlock) (optionals : Tree (RowOf AnOptional)) (b0 b1 b2 : List (List Use))
-    → b1 ≡ b0 ++ match_uses seen main optionals ∷ [] → b2 ≡ with_blocks b1 (blocks seen main)
-    → with_blocks b2 (blocks seen optionals) ≡ with_blocks b0 (blocks seen (tree.Basic token items main optionals))
-unfolding blocks
-basic_blocks seen token items main optionals b0 b1 b2 e1 e2 = ap (λ b. with_blocks b (blocks seen optionals)) (e2 ∙ ap (λ b. with_blocks b (blocks seen main)) e1)
+pub basic-returns-clause-ways : goal.basic-returns-clause-ways
+basic-returns-clause-ways t c =
+    on_ok c.optionals.result
+    (λ made names. basic_made names c.args.basic.now c.args.walk.now c.arrive.new.self c.part.new.walk.here c.part.new.walk.ways c.optionals.new.walk.ways
+    c.in_ok-arrive.ensures c.in_ok-part.ensures.here (c.in_ok-part.ensures.ways names) (made names)) c.optionals.ensures.ways
 
-block_blocks : (seen more : List Use) (patterns : Tree (RowOf ALocated)) (filter : Tree (RowOf AFormula)) (b : List (List Use))
-    → more ≡ seen ++ all_of located_uses patterns → with_blocks b (blocks more filter) ≡ with_blocks b (blocks seen (tree.Block patterns filter))
-unfolding blocks
-block_blocks seen more patterns filter b e = ap (λ uses. with_blocks b (blocks uses filter)) e
+pub head-returns-in-Graph-clause-ways : goal.head-returns-in-Graph-clause-ways
+unfolding head_by query_by
+head-returns-in-Graph-clause-ways t c =
+    on_ok c.query.result
+    (λ made names.
+    let e : head_tree names c.args.head.now ≡ tree.GraphHead (named_by (name_of names) c.in-Graph.name) (query_tree names c.in-Graph.declared) = rw c.in-Graph.is (search (rules, the_lemmas)) in
+    made names ∙ ap (with_ways c.args.walk.now.ways) (graph_head c.args.walk.now.here (head_tree names c.args.head.now) _ _ e)) c.query.ensures.ways
 
-pub block-returns-clause-sorts : goal.block-returns-clause-sorts
-block-returns-clause-sorts t c =
-    let s = c.args.seen.now in
-    let k = c.add_located.new.variables in
-    let x = out-MatchBlock c.args.block.now in
-    subst (λ n. places_by n c.filter.new.sorts ≡ with_blocks (places_by n c.args.sorts.now) (blocks k.uses (maybe (option_map (formula_tree n) x.filter)))) c.in_ok-add_located.ensures.names c.in_ok-filter.ensures.sorts
-    ∙ block_blocks s.uses k.uses (row (map (located_tree s.names) x.patterns)) (maybe (option_map (formula_tree s.names) x.filter)) (places_by s.names c.args.sorts.now) c.in_ok-add_located.ensures.uses
-    ∙ sym (ap (λ tree. with_blocks (places_by s.names c.args.sorts.now) (blocks s.uses tree)) (block_of s.names c.args.block.now))
+pub term-returns-in-Basic-clause-ways : goal.term-returns-in-Basic-clause-ways
+term-returns-in-Basic-clause-ways t c =
+    on_ok c.basic.result (λ made names. made names ∙ ap (with_ways c.args.walk.now.ways) (basic_term names c.args.walk.now.here c.in-Basic.one c.deref.result.now c.args.term.now c.in-Basic.is c.deref.ensures)) c.basic.ensures.ways
 
-pub basic-returns-clause-sorts : goal.basic-returns-clause-sorts
-basic-returns-clause-sorts t c =
-    let s = c.args.seen.now in
-    let x = out-Basic c.args.basic.now in
-    let main = subst (λ (k : Scope). places_by k.names c.block.new.sorts ≡ with_blocks (places_by k.names c.whole.new.sorts) (blocks k.uses (block_tree k.names x.main))) c.in_ok-whole.ensures.seen c.in_ok-block.ensures.sorts in
-    subst (λ b. OnOk c.optionals.result (places_by s.names c.optionals.new.sorts ≡ b))
-    (basic_blocks s.uses x.token (row (map (item_tree s.names) x.items.items)) (block_tree s.names x.main) (row (map (optional_tree s.names) x.optionals.items))
-    (places_by s.names c.args.sorts.now) (places_by s.names c.whole.new.sorts) (places_by s.names c.block.new.sorts) c.in_ok-whole.ensures.sorts main
-    ∙ sym (ap (λ tree. with_blocks (places_by s.names c.args.sorts.now) (blocks s.uses tree)) (basic_of s.names c.args.basic.now)))
-    (subst (λ (k : Scope). OnOk c.optionals.result (places_by k.names c.optionals.new.sorts ≡ with_blocks (places_by k.names c.block.new.sorts) (blocks k.uses (row (map (optional_tree k.names) x.optionals.items)))))
-    (c.in_ok-block.ensures.seen ∙ c.in_ok-whole.ensures.seen) c.optionals.ensures.sorts)
+pub term-returns-in-Query-clause-ways : goal.term-returns-in-Query-clause-ways
+term-returns-in-Query-clause-ways t c =
+    on_ok c.query.result (λ made names. made names ∙ ap (with_ways c.args.walk.now.ways) (query_term names c.args.walk.now.here c.in-Query.inner c.deref-in-Query.result.now c.args.term.now c.in-Query.is c.deref-in-Query.ensures)) c.query.ensures.ways
 
-pub query-returns-clause-sorts : goal.query-returns-clause-sorts
-query-returns-clause-sorts t c =
-    let s = c.args.seen.now in
-    let x = out-Query c.args.query.now in
-    let first = subst (λ (k : Scope). places_by k.names c.term.new.sorts ≡ with_blocks (places_by k.names c.heads.new.sorts) (blocks k.uses (term_tree k.names x.first))) c.in_ok-heads.ensures.seen c.in_ok-term.ensures.sorts in
-    subst (λ b. OnOk c.rest.result (places_by s.names c.rest.new.sorts ≡ b))
-    (query_blocks s.uses (row (map (head_tree s.names) x.heads.items)) (term_tree s.names x.first) (row (map (next_term_tree s.names) x.rest.items))
-    (places_by s.names c.args.sorts.now) (places_by s.names c.heads.new.sorts) (places_by s.names c.term.new.sorts) c.in_ok-heads.ensures.sorts first
-    ∙ sym (ap (λ tree. with_blocks (places_by s.names c.args.sorts.now) (blocks s.uses tree)) (query_of s.names c.args.query.now)))
-    (subst (λ (k : Scope). OnOk c.rest.result (places_by k.names c.rest.new.sorts ≡ with_blocks (places_by k.names c.term.new.sorts) (blocks k.uses (row (map (next_term_tree k.names) x.rest.items)))))
-    (c.in_ok-term.ensures.seen ∙ c.in_ok-heads.ensures.seen) c.rest.ensures.sorts)
+pub part-returns-in-None-clause-ways : goal.part-returns-in-None-clause-ways
+part-returns-in-None-clause-ways t c = λ names. sym (ap (with_ways c.args.walk.now.ways) (no_filter names c.args.walk.now.here c.args.part c.args.block.now c.in-None.is))
+
+pub part-returns-in-Some-clause-ways : goal.part-returns-in-Some-clause-ways
+part-returns-in-Some-clause-ways t c =
+    on_ok c.queries.result (λ made names. made names ∙ ap (with_ways c.args.walk.now.ways) (filtered names c.args.walk.now.here c.args.part c.args.block.now c.in-Some.formula c.in-Some.is)) c.queries.ensures.ways
+
+pub rest-loop-i-preserved : goal.rest-loop-i-preserved
+rest-loop-i-preserved t c = record {
+  here = c.in_ok-term_at.ensures.here ∙ c.loop-i.invariant.here;
+  ways = λ names. rest_on names c.args.walk.now.here c.loop-i.walk.here c.deref-next-items.result.now c.args.rest.now.items c.deref-next-items.ensures.value c.loop-i.i c.next-item.result (omega (arith, c.loop-i-test.true)) c.next-item.is
+      c.in_ok-number.field-0 c.in_ok-number.ensures c.loop-i.invariant.here c.loop-i.walk.ways c.term_at.new.walk.ways _ (c.in_ok-term_at.ensures.ways names) (c.loop-i.invariant.ways names);
+}
+
+pub rest-returns-clause-ways : goal.rest-returns-clause-ways
+rest-returns-clause-ways t c = λ names.
+    sym (ap (with_ways c.loop-i.walk.ways) (no_rest c.args.walk.now.here _ _ (next_term_tree names) (drop_all c.loop-i.i c.args.rest.now.items (omega (arith, c.loop-i-test.false, c.deref-next-items.ensures))))) ∙ c.loop-i.invariant.ways names
+
+pub optionals-loop-i-preserved : goal.optionals-loop-i-preserved
+optionals-loop-i-preserved t c = record {
+  here = c.in_ok-part.ensures.here ∙ c.loop-i.invariant.here;
+  ways = λ names. optionals_on names c.args.walk.now.here c.loop-i.walk.here c.deref-one-items.result.now c.args.optionals.now.items c.deref-one-items.ensures.value c.loop-i.i c.one-item.result (omega (arith, c.loop-i-test.true)) c.one-item.is
+      c.in_ok-number.field-0 c.in_ok-number.ensures c.loop-i.invariant.here c.loop-i.walk.ways c.part.new.walk.ways _ (c.in_ok-part.ensures.ways names) (c.loop-i.invariant.ways names);
+}
+
+pub optionals-returns-clause-ways : goal.optionals-returns-clause-ways
+optionals-returns-clause-ways t c = λ names.
+    sym (ap (with_ways c.loop-i.walk.ways) (no_optionals c.args.walk.now.here _ _ (optional_tree names) (drop_all c.loop-i.i c.args.optionals.now.items (omega (arith, c.loop-i-test.false, c.deref-one-items.ensures))))) ∙ c.loop-i.invariant.ways names

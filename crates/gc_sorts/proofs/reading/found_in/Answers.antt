@@ -1,4 +1,4 @@
-use Rattle.std.proofs.Common.{◌≡◌, ◌∙◌, ap, map}
+use Rattle.std.proofs.Common.{◌∙◌, ap, map}
 use Rattle.gc_ast.specs.QueryViews.{statement_tree, file_trees}
 use Rattle.gc_ast.specs.Trees.{row}
 use Rattle.gc_sorts.specs.Collected.{HeldScope, collect, nothing}
