@@ -2,6 +2,7 @@
 use Rattle.std.specs.Prelude.{ℕ, List, length}
 use Rattle.gc_ast.specs.QueryViews.{file_trees}
 use Rattle.gc_ast.specs.Trees.{Tree, AStatement, row}
+use Rattle.gc_sorts.specs.Blocks.{file_blocks}
 use Rattle.gc_sorts.specs.Occurrences.{Occurrences, file_occurrences}
 use Rattle.gc_sorts.specs.Reads.{graph_at, view_at, hidden_from}
 use Rattle.gc_sorts.specs.declared.checked.Checked.{Checked}
@@ -30,6 +31,7 @@ scope_in f on =
       view_at = view_at (occurrences_of f);
       hidden_at = hidden_from (length f.names) (occurrences_of f);
       views = path_heads (row f.statements);
+      blocks = file_blocks (row f.statements);
       on = on;
     }
 

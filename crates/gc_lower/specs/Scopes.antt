@@ -5,16 +5,19 @@ use Rattle.gc_base.specs.declared.place.Sym.{Sym}
 use Rattle.gc_expr.specs.Views.{Names}
 use Rattle.gc_ast.specs.Names.{number_in}
 use Rattle.gc_ast.specs.Trees.{Tree, AHead, Named}
+use Rattle.gc_sorts.specs.Blocks.{Placed}
 use Rattle.gc_alg.specs.declared.atom.ViewUse.{ViewUse}
 
 -- the names of a file by number; what stands at a token: the number of a graph, the number of a view, and the hidden variable
--- of an unnamed element; the views by number, each as the head that declares it; and the number of the graph of a chain without ON
+-- of an unnamed element; the views by number, each as the head that declares it; the blocks by number; and the number of the graph
+-- of a chain without ON
 pub record Scope : Type 0 where
   pub names : Names
   pub graph_at : ℕ → Option ℕ
   pub view_at : ℕ → Option ℕ
   pub hidden_at : ℕ → Option ℕ
   pub views : List (Tree AHead)
+  pub blocks : List Placed
   pub on : ℕ
 
 -- the number that stands at a token, where the rules of sorts let no file be without one; else it would be the first
