@@ -8,9 +8,9 @@ ghost use Rattle.gc_sorts.specs.FileBlocks.{around_by, block_by, node_by};
 ghost use Rattle.gc_sorts.specs.Variables.{first_sort};
 ghost use Rattle.gc_sorts.specs.Ways.{around_uses_at, led, own_uses_at, part_left};
 
-use crate::file_block::{FileBlock, PartAround};
+use crate::file_block::{FileBlock, PartAround, part_of};
 use crate::first_sorts::{Sought, in_chains, in_optionals, in_part};
-use crate::reached::{Reached, next, part_of};
+use crate::reached::{Reached, next};
 use crate::sort::Sort;
 use crate::step::Step;
 use gc_ast::{Basic, Statement};

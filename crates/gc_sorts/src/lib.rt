@@ -49,7 +49,7 @@ mod way_walk;
 pub use breach::{Breach, SortRule};
 pub use checked::Checked;
 pub use checking::check;
-pub use file_block::{FileBlock, PartAround};
+pub use file_block::{FileBlock, PartAround, part_of};
 pub use laws::the_first_breach_is_the_first;
 pub use refusal::SortRefusal;
 pub use sort::Sort;

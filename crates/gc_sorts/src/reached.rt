@@ -8,7 +8,7 @@ ghost use Rattle.gc_sorts.specs.FileBlocks.{block_by, node_by};
 ghost use Rattle.gc_sorts.specs.Ways.{AtBlock, AtQuery, AtStatements, asked, declared, from_term, next, query_in};
 ghost use Rattle.gc_sorts.specs.declared.step.Step.TheVariants as to;
 
-use crate::file_block::FileBlock;
+use crate::file_block::{FileBlock, part_of};
 use crate::step::Step;
 use gc_ast::{Basic, Head, MatchBlock, Query, Statement, Term};
 
@@ -150,19 +150,5 @@ fn exists_in<'a>(block: &'a MatchBlock, number: u32) -> Option<Reached<'a>>
             None => None,
             Some(query) => Some(Reached::Query(query)),
         },
-    }
-}
-
-/// The part of a MATCH of a number: the mandatory one, or an OPTIONAL block.
-#[tactic(auto, unfolding(gc_ast::specs::QueryViews::basic_by, gc_ast::specs::QueryViews::block_by, gc_ast::specs::QueryViews::optional_by))]
-pub(crate) fn part_of<'a>(basic: &'a Basic, part: u32) -> Option<&'a MatchBlock>
-    ensures { (names : Names) → option_map (λ block. block_tree names block.now) result ≡ part_of (basic_tree names basic.now) part }
-{
-    if part == 0 {
-        return Some(&basic.main);
-    }
-    match basic.optionals.get((part - 1) as usize) {
-        None => None,
-        Some(optional) => Some(&optional.block),
     }
 }

@@ -1,7 +1,7 @@
 use Rattle.std.proofs.Common.{Some, None, length, refl, arith, ◌-◌}
 use Rattle.std.proofs.lemmas.Option.{slice_get_past, slice_get_read}
 use Rattle.gc_sorts.proofs.NextLaws.{optional_at}
-use Rattle.gc_sorts.proofs.reached.part_of.Goals as goal
+use Rattle.gc_sorts.proofs.file_block.part_of.Goals as goal
 
 pub returns-in-None : goal.returns-in-None
 returns-in-None c = λ names.
