@@ -9,7 +9,7 @@ use Rattle.gc_ast.specs.Trees.{AQuery, ATerm, AFormula, ABasic, AnOptional, APat
 use Rattle.gc_alg.specs.Instances.{variables_of}
 use Rattle.gc_alg.specs.Matches.{text_tree}
 use Rattle.gc_alg.specs.Mentions.{in_conjunct}
-use Rattle.gc_alg.specs.Trees.{Tree, ABlock, APart, AConjunct, AnExists, RowOf, BlockOf, PartOf, ConjunctOf, ExistsOf, none, more, row}
+use Rattle.gc_alg.specs.Trees.{Tree, ABlock, APart, AConjunct, AnExists, RowOf, BlockOf, PartOf, ExistsOf, none, more, row}
 use Rattle.gc_alg.specs.declared.atom.Atom.{Atom}
 use Rattle.gc_lower.specs.Chains.{atoms_of, view_atoms}
 use Rattle.gc_lower.specs.Conditions.{and_parts, dealt}

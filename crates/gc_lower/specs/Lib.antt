@@ -6,3 +6,4 @@ pub mod Namings
 pub mod PathHeads
 pub mod Reads
 pub mod Scopes
+pub mod Sights

@@ -101,10 +101,10 @@ fn queries_of(
     Ok(lowered)
 }
 
-/// The block of an EXISTS query, which is that of its MATCH.
+// The block of an EXISTS query, which is that of its MATCH.
 #[tactic(auto, using(crate::proofs::TreeParts::query_parts, crate::proofs::TreeParts::basic_term), unfolding(crate::specs::Blocks::block_of))]
 #[cycle(lowered)]
-pub(crate) fn query_block(
+fn query_block(
     query: &Query,
     alloc: Global,
     naming: &Naming<'_>,
@@ -119,7 +119,8 @@ pub(crate) fn query_block(
     }
 }
 
-fn without_parts(alloc: Global, around: &[ReadUse]) -> Result<Block, Memory>
+/// A block without parts, around which other blocks read variables.
+pub(crate) fn without_parts(alloc: Global, around: &[ReadUse]) -> Result<Block, Memory>
     ensures { IfOk result (λ block. block_tree block ≡ BlockOf none around.now) }
 {
     let reads = copied(alloc, around)?;

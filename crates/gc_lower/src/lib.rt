@@ -3,7 +3,7 @@
 //! `lower` and `variable`. This crate knows of no rows and runs nothing.
 #![tactic(auto)]
 
-mod asked;
+mod around;
 mod blocks;
 mod chains;
 mod conjuncts;
@@ -17,6 +17,5 @@ mod reads;
 mod renumbering;
 mod variables;
 
-pub use asked::AskedBlock;
 pub use lowering::{LoweredBlock, lower};
 pub use variables::variable;

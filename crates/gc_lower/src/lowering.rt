@@ -1,13 +1,20 @@
-ghost use Rattle.std.specs.Prelude.{◌≡◌, IfOk};
+ghost use Rattle.std.specs.Prelude.{◌≡◌, [], slice_get, Some, IfOk};
 ghost use Rattle.gc_alg.specs.Views.{block_tree};
+ghost use Rattle.gc_ast.specs.QueryViews.{basic_tree, file_trees};
+ghost use Rattle.gc_ast.specs.Trees.{row};
+ghost use Rattle.gc_sorts.specs.Blocks.{around_in, file_blocks};
+ghost use Rattle.gc_lower.specs.Blocks.{block_of};
 ghost use Rattle.gc_lower.specs.Lowerings.{IsLowered, asked_block};
+ghost use Rattle.gc_lower.specs.Namings.{scope_of};
+ghost use Rattle.gc_lower.specs.Sights.{around_reads};
 
-use crate::asked::AskedBlock;
-use crate::blocks::{block_of, query_block, view_block};
+use crate::around::around_reads;
+use crate::blocks::{block_of, view_block, without_parts};
 use crate::naming::Naming;
 use gc_alg::{Block, Rel, text_tree};
-use gc_base::Memory;
-use gc_sorts::Checked;
+use gc_ast::Basic;
+use gc_base::{BlockNo, Memory};
+use gc_sorts::{Checked, FileBlock};
 use std::alloc::Global;
 
 /// A block, and its tree in the order of the text.
@@ -17,16 +24,18 @@ pub struct LoweredBlock {
     pub tree: Rel,
 }
 
-/// What a block of a file asks for, and its tree. Of a view `on` is the number of the graph on which it is used; for
-/// any other block it is not read. A number past its type is want of memory, and so is a view's name that the file
-/// lacks.
+/// What the block of a number in a file asks for, and its tree: the MATCH of a CONSTRUCT with its OPTIONAL blocks, the
+/// MATCH of an EXISTS query, which sees variables of the blocks around it, or the chains and the WHERE of a PATH view.
+/// Of a view `on` is the number of the graph on which it is used; for any other block it is not read, and patterns
+/// without ON stand on the first graph. A number that no block has gives the block without parts. A number past its
+/// type is want of memory, and so is a view's name that the file lacks.
 pub fn lower(
     alloc: Global,
     checked: &Checked,
-    block: AskedBlock<'_>,
+    block: BlockNo,
     on: u32,
 ) -> Result<LoweredBlock, Memory>
-    ensures { IfOk result (IsLowered (asked_block checked.now block.entry on)) }
+    ensures { IfOk result (IsLowered (asked_block checked.now block.0 on)) }
 {
     let block = asked_block(alloc, checked, block, on)?;
     let tree = text_tree(alloc, &block)?;
@@ -34,21 +43,30 @@ pub fn lower(
 }
 
 // The block that is due.
-fn asked_block(
-    alloc: Global,
-    checked: &Checked,
-    block: AskedBlock<'_>,
-    on: u32,
-) -> Result<Block, Memory>
-    ensures { IfOk result (λ made. block_tree made ≡ asked_block checked.now block.entry on) }
+fn asked_block(alloc: Global, checked: &Checked, number: BlockNo, on: u32) -> Result<Block, Memory>
+    ensures { IfOk result (λ made. block_tree made ≡ asked_block checked.now number.0 on) }
 {
-    match block {
-        AskedBlock::Match(basic) => block_of(basic, alloc, &Naming { checked, on: 0 }, &[]),
-        AskedBlock::View { chains, filter } => {
+    match checked.block(number) {
+        None => without_parts(alloc, &[]),
+        Some(FileBlock::Match(basic)) => match_block(alloc, checked, number, basic),
+        Some(FileBlock::View { chains, filter, .. }) => {
             view_block(alloc, &Naming { checked, on }, chains, filter)
         }
-        AskedBlock::Exists { query, around } => {
-            query_block(query, alloc, &Naming { checked, on: 0 }, around)
-        }
     }
+}
+
+// That of the MATCH of a CONSTRUCT, which sees variables of the parts around the block of a number.
+fn match_block(
+    alloc: Global,
+    checked: &Checked,
+    number: BlockNo,
+    basic: &Basic,
+) -> Result<Block, Memory>
+    ensures { IfOk result (λ made. block_tree made ≡ block_of (scope_of checked.now 0)
+        (around_reads (scope_of checked.now 0) [] (around_in (slice_get (file_blocks (row (file_trees checked.now.file))) number.0)))
+        (basic_tree checked.now.file.names basic.now)) }
+{
+    let naming = Naming { checked, on: 0 };
+    let around = around_reads(alloc, &naming, number)?;
+    block_of(basic, alloc, &naming, &around)
 }
