@@ -1,5 +1,6 @@
 mod AllPathsSearched
 mod BasicsMade
+mod BlocksFound
 mod BuiltFiles
 mod BuiltRests
 mod CostLaws

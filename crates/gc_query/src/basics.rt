@@ -16,6 +16,7 @@ use crate::costs::{costs_of, first_past};
 use crate::explaining::tell;
 use crate::fault::{Fault, QueryRefusal};
 use crate::log::Told;
+use crate::lowered::lowered_at;
 use crate::made::Made;
 use crate::segments::segments_used;
 use crate::session::Session;
@@ -28,7 +29,6 @@ use gc_build::{Built, Refusal, construct};
 use gc_build_numbers::Setting;
 use gc_build_reading::{found_variables, recipe};
 use gc_catalog::Catalog;
-use gc_lower::{AskedBlock, lower};
 use gc_ppg::GraphList;
 use gc_prod::SegmentTable;
 use gc_rows::Table;
@@ -55,7 +55,7 @@ pub(crate) fn basic_made<L: Ledger>(
     ensures told { OnOk result (Tells (scope_in session.now)
         (EvaluatesBasic (scope_in session.now) named.now.names graphs.now (basic_tree (names_in session.now) basic.now)) told.old told.new) }
 {
-    let lowered = lower(session.alloc, session.checked, AskedBlock::Match(basic), 0)?;
+    let lowered = lowered_at(session, basic.token, 0)?;
     let segments = segments_used(session, graphs, &lowered.block, steps)?;
     let table = table_of(session.alloc, graphs, &segments, &lowered.block, steps)?;
     tell(

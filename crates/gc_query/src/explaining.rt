@@ -10,11 +10,12 @@ ghost use Rattle.gc_explain_query.specs.QueryLines.{view_of};
 ghost use Rattle.gc_query.specs.Answered.{names_in, scope_in};
 ghost use Rattle.gc_exec.specs.Runs.{setting};
 ghost use Rattle.gc_walks.specs.Databases.{AreOnGraphs};
-ghost use Rattle.gc_query.specs.Built.{are_searched};
+ghost use Rattle.gc_query.specs.Built.{AreNumbered, IsHeadNumbered, are_searched};
 ghost use Rattle.gc_query.specs.Logs.{IsToldOf, explained_head, explained_on, explained_view, named_view, word_if};
 ghost use Rattle.gc_query.specs.UsedViews.{in_turn, uses_of};
 
 use crate::log::{Told, Wants};
+use crate::lowered::lowered_at;
 use crate::path_heads::path_heads;
 use crate::session::Session;
 use crate::used_views::{ViewOn, uses_of};
@@ -24,7 +25,6 @@ use gc_base::{Bytes, Duplicate, Memory, Name, NameAt, Steps};
 use gc_catalog::Catalog;
 use gc_cert_searches::searches_of;
 use gc_explain_query::{ExplainedView, query_lines};
-use gc_lower::{AskedBlock, lower};
 use gc_ppg::GraphList;
 use gc_prod::SegmentTable;
 use gc_rows::Table;
@@ -42,6 +42,7 @@ pub(crate) fn tell<L: Ledger>(
     told: &mut Told,
     steps: &mut Steps<L>,
 ) -> Result<(), Memory>
+    requires views { AreNumbered (scope_in session.now) (scope_in session.now).views }
     requires searched { are_searched (block_tree block.now) ≡ true }
     requires only { AreOnly (block_tree block.now) }
     requires there { AreOnGraphs graphs.now segments.now }
@@ -69,6 +70,7 @@ fn lines_of(
     block: &Block,
     number: u64,
 ) -> Result<Bytes, Memory>
+    requires { AreNumbered (scope_in session.now) (scope_in session.now).views }
     ensures { IfOk result (λ lines. lines ≡ explained_on (scope_in session.now) number named.now.names graphs.now (block_tree block.now)) }
 {
     let uses = uses_of(session.alloc, block)?;
@@ -82,6 +84,7 @@ fn views_of(
     named: &Catalog,
     uses: &[ViewOn],
 ) -> Result<Vec<ExplainedView>, Memory>
+    requires { AreNumbered (scope_in session.now) (scope_in session.now).views }
     ensures { IfOk result (λ views. map view_of views.items
         ≡ flat_map (explained_view (scope_in session.now) named.now.names) (in_turn 0 (scope_in session.now).views uses.now)) }
 {
@@ -105,6 +108,7 @@ fn push_uses(
     uses: &[ViewOn],
     views: &mut Vec<ExplainedView>,
 ) -> Result<(), Memory>
+    requires { IsHeadNumbered (scope_in session.now) (head_tree (names_in session.now) head.now) }
     ensures { OnOk result (map view_of views.new.items ≡ map view_of views.old.items
         ++ flat_map (explained_view (scope_in session.now) named.now.names) (uses_of (head_tree (names_in session.now) head.now) number uses.now)) }
 {
@@ -123,6 +127,7 @@ fn push_use(
     used: &ViewOn,
     views: &mut Vec<ExplainedView>,
 ) -> Result<(), Memory>
+    requires { IsHeadNumbered (scope_in session.now) (head_tree (names_in session.now) head.now) }
     ensures { OnOk result (map view_of views.new.items ≡ map view_of views.old.items
         ++ flat_map (explained_view (scope_in session.now) named.now.names) (uses_of (head_tree (names_in session.now) head.now) number (used.now ∷ []))) }
 {
@@ -140,22 +145,17 @@ fn push_view(
     graph: u32,
     views: &mut Vec<ExplainedView>,
 ) -> Result<(), Memory>
+    requires { IsHeadNumbered (scope_in session.now) (head_tree (names_in session.now) head.now) }
     ensures { OnOk result (map view_of views.new.items ≡ map view_of views.old.items
         ++ explained_head (scope_in session.now) named.now.names graph (head_tree (names_in session.now) head.now)) }
 {
     match head {
-        Head::Path {
-            name,
-            chains,
-            filter,
-            cost,
-        } => {
+        Head::Path { name, .. } => {
             let view = Located {
                 name: word_at(session, *name),
                 graph: named.name_at(graph),
             };
-            let asked = AskedBlock::View { chains, filter };
-            let lowered = lower(session.alloc, session.checked, asked, graph)?;
+            let lowered = lowered_at(session, name.token, graph)?;
             push_named(&view, lowered.block, views)
         }
         Head::Graph { .. } => Ok(()),

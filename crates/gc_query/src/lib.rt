@@ -10,6 +10,7 @@ mod fault;
 mod graph_views;
 mod laws;
 mod log;
+mod lowered;
 mod made;
 mod naming;
 mod path_heads;

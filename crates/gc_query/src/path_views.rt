@@ -5,19 +5,20 @@ ghost use Rattle.gc_alg.specs.Views.{block_tree};
 ghost use Rattle.gc_ast.specs.QueryViews.{formula_tree};
 ghost use Rattle.gc_ast.specs.Trees.{maybe};
 ghost use Rattle.gc_expr.specs.Views.{Names};
+ghost use Rattle.gc_sorts.specs.Blocks.{ViewBlock};
 ghost use Rattle.gc_prod.specs.Segments.{AreSegments};
 ghost use Rattle.gc_spec.specs.PropertyGraph.{PropertyGraph};
 ghost use Rattle.gc_query.specs.Answered.{IsAnswered, declared_in, names_in, plain_pattern, scope_in, told_of};
-ghost use Rattle.gc_query.specs.Built.{are_searched};
+ghost use Rattle.gc_query.specs.Built.{IsNumbered, are_searched};
 ghost use Rattle.gc_query.specs.Segments.{IsOfView, OfView, block_on, has_no_query, is_view};
 
 use crate::fault::{Fault, QueryRefusal};
+use crate::lowered::lowered_at;
 use crate::session::Session;
 use crate::tables::table_of;
 use gc_alg::Block;
 use gc_ast::{Chain, ChainList, Formula, Pattern, Query};
 use gc_base::{NameAt, Steps};
-use gc_lower::{AskedBlock, lower};
 use gc_ppg::GraphList;
 use gc_prod::{SegmentList, SegmentTable};
 use gc_views::{ViewFault, segments};
@@ -40,17 +41,14 @@ pub(crate) fn view_segments<L: Ledger>(
     graph: u32,
     steps: &mut Steps<L>,
 ) -> Result<SegmentList, QueryRefusal>
+    requires { let d = declared_in (names_in session.now) view.now in IsNumbered (scope_in session.now) (ViewBlock d.name.token d.chains d.filter) }
     ensures due { let d = declared_in (names_in session.now) view.now in IsAnswered (OfView (is_view d) (scope_in session.now) graphs.now graph d) result }
     ensures there { IfOk result (λ found. (g : PropertyGraph) → slice_get graphs.now graph ≡ Some g → AreSegments g found) }
 {
     if !is_plain_view(view) {
         return Ok(SegmentList::new(session.alloc));
     }
-    let asked = AskedBlock::View {
-        chains: view.chains,
-        filter: view.filter,
-    };
-    let lowered = lower(session.alloc, session.checked, asked, graph)?;
+    let lowered = lowered_at(session, view.name.token, graph)?;
     block_segments(session, graphs, view, graph, &lowered.block, steps)
 }
 

@@ -5,6 +5,7 @@ ghost use Rattle.gc_walks.specs.Databases.{AreOnGraphs};
 ghost use Rattle.gc_prod.specs.Segments.{AreSegments};
 ghost use Rattle.gc_spec.specs.PropertyGraph.{PropertyGraph};
 ghost use Rattle.gc_query.specs.Answered.{IsAnswered, IsRefused, names_in, scope_in};
+ghost use Rattle.gc_query.specs.Built.{AreNumbered, IsHeadNumbered};
 ghost use Rattle.gc_query.specs.Segments.{HasSegments, OfHead, OfUses};
 ghost use Rattle.gc_query.specs.UsedViews.{in_turn, uses_of};
 ghost use Rattle.gc_query.specs.Uses.{Fails, Gains};
@@ -28,6 +29,7 @@ pub(crate) fn segments_used<L: Ledger>(
     block: &Block,
     steps: &mut Steps<L>,
 ) -> Result<SegmentTable, QueryRefusal>
+    requires { AreNumbered (scope_in session.now) (scope_in session.now).views }
     ensures due { IsAnswered (HasSegments (scope_in session.now) graphs.now (block_tree block.now)) result }
     ensures there { IfOk result (AreOnGraphs graphs.now) }
 {
@@ -42,6 +44,7 @@ fn segments_by<L: Ledger>(
     uses: &[ViewOn],
     steps: &mut Steps<L>,
 ) -> Result<SegmentTable, QueryRefusal>
+    requires { AreNumbered (scope_in session.now) (scope_in session.now).views }
     ensures due { IsAnswered (OfUses (scope_in session.now) graphs.now (in_turn 0 (scope_in session.now).views uses.now)) result }
     ensures there { IfOk result (AreOnGraphs graphs.now) }
 {
@@ -66,6 +69,7 @@ fn add_uses<L: Ledger>(
     table: &mut SegmentTable,
     steps: &mut Steps<L>,
 ) -> Result<(), QueryRefusal>
+    requires { IsHeadNumbered (scope_in session.now) (head_tree (names_in session.now) head.now) }
     ensures gains { OnOk result (Gains (scope_in session.now) graphs.now
         (uses_of (head_tree (names_in session.now) head.now) number uses.now) table.old table.new) }
     ensures fails { IfErr result (IsRefused (Fails (scope_in session.now) graphs.now (uses_of (head_tree (names_in session.now) head.now) number uses.now))) }
@@ -87,6 +91,7 @@ fn add_use<L: Ledger>(
     table: &mut SegmentTable,
     steps: &mut Steps<L>,
 ) -> Result<(), QueryRefusal>
+    requires { IsHeadNumbered (scope_in session.now) (head_tree (names_in session.now) head.now) }
     ensures gains { OnOk result (Gains (scope_in session.now) graphs.now
         (uses_of (head_tree (names_in session.now) head.now) number (used.now ∷ [])) table.old table.new) }
     ensures fails { IfErr result (IsRefused (Fails (scope_in session.now) graphs.now
@@ -113,6 +118,7 @@ fn segments_of<L: Ledger>(
     graph: u32,
     steps: &mut Steps<L>,
 ) -> Result<SegmentList, QueryRefusal>
+    requires { IsHeadNumbered (scope_in session.now) (head_tree (names_in session.now) head.now) }
     ensures due { IsAnswered (OfHead (scope_in session.now) graphs.now graph (head_tree (names_in session.now) head.now)) result }
     ensures there { IfOk result (λ found. (g : PropertyGraph) → slice_get graphs.now graph ≡ Some g → AreSegments g found) }
 {

@@ -17,6 +17,8 @@ use Rattle.gc_query.specs.Costs.{costs_of, first_past}
 use Rattle.gc_query.specs.Evaluations.{evaluation}
 use Rattle.gc_query.specs.Logs.{IsToldOf}
 use Rattle.gc_query.specs.Segments.{HasSegments}
+use Rattle.gc_sorts.specs.Blocks.{MatchBlock}
+use Rattle.gc_query.proofs.BlocksFound.{construct_at}
 use Rattle.gc_query.proofs.EvaluationLaws.{always, told_of}
 use Rattle.gc_query.specs.declared.costs.CostAt.{CostAt}
 use Rattle.gc_query.specs.Standings.{Standing}
@@ -25,19 +27,19 @@ use Rattle.gc_query.proofs.Outcomes.{passes_on, refused}
 use Rattle.gc_query.proofs.basics.basic_made.Goals as goal
 
 pub table_of-requires-clause-searched : goal.table_of-requires-clause-searched
-table_of-requires-clause-searched g c = ap are_searched c.in_ok-lowered.ensures.is_block ∙ c.requires.built.searched
+table_of-requires-clause-searched g c = ap are_searched (c.in_ok-lowered.ensures (MatchBlock (basic_tree (names_in c.args.session.now) c.args.basic.now)) c.requires.built.numbered (construct_at (names_in c.args.session.now) c.args.basic.now)).is_block ∙ c.requires.built.searched
 
 pub table_made-requires-clause-block : goal.table_made-requires-clause-block
-table_made-requires-clause-block g c = c.in_ok-lowered.ensures.is_block
+table_made-requires-clause-block g c = (c.in_ok-lowered.ensures (MatchBlock (basic_tree (names_in c.args.session.now) c.args.basic.now)) c.requires.built.numbered (construct_at (names_in c.args.session.now) c.args.basic.now)).is_block
 
 pub table_made-requires-clause-matched : goal.table_made-requires-clause-matched
 table_made-requires-clause-matched g c = c.in_ok-table.ensures
 
 pub tell-requires-clause-searched : goal.tell-requires-clause-searched
-tell-requires-clause-searched g c = ap are_searched c.in_ok-lowered.ensures.is_block ∙ c.requires.built.searched
+tell-requires-clause-searched g c = ap are_searched (c.in_ok-lowered.ensures (MatchBlock (basic_tree (names_in c.args.session.now) c.args.basic.now)) c.requires.built.numbered (construct_at (names_in c.args.session.now) c.args.basic.now)).is_block ∙ c.requires.built.searched
 
 pub tell-requires-clause-only : goal.tell-requires-clause-only
-tell-requires-clause-only g c = subst AreOnly (sym c.in_ok-lowered.ensures.is_block) c.requires.built.only
+tell-requires-clause-only g c = subst AreOnly (sym (c.in_ok-lowered.ensures (MatchBlock (basic_tree (names_in c.args.session.now) c.args.basic.now)) c.requires.built.numbered (construct_at (names_in c.args.session.now) c.args.basic.now)).is_block) c.requires.built.only
 
 pub tell-requires-clause-matched : goal.tell-requires-clause-matched
 tell-requires-clause-matched g c = c.in_ok-table.ensures
@@ -48,7 +50,7 @@ returns-clause-told g c =
     let s : Scope = scope_in c.args.session.now in
     let names : Names = names_in c.args.session.now in
     let tree = basic_tree names c.args.basic.now in
-    let is : block_tree c.in_ok-lowered.lowered.block ≡ block_of s [] tree = c.in_ok-lowered.ensures.is_block in
+    let is : block_tree c.in_ok-lowered.lowered.block ≡ block_of s [] tree = (c.in_ok-lowered.ensures (MatchBlock (basic_tree (names_in c.args.session.now) c.args.basic.now)) c.requires.built.numbered (construct_at (names_in c.args.session.now) c.args.basic.now)).is_block in
     let graphs : List PropertyGraph = c.args.graphs.now in
     let all = evaluation tree c.args.named.now.names graphs c.in_ok-segments.segments c.in_ok-table.table ∷ [] in
     always c.table_made.result _ (
@@ -73,14 +75,14 @@ returns-in_err-segments-clause-due g c =
     let at : Standing = record { graphs = c.args.graphs.now; next = c.args.next } in
     refused (λ fault. HasSegments s at.graphs (block_tree c.in_ok-lowered.lowered.block) (Err fault)) c.in_err-segments.field-0.0 c.in_err-segments.ensures.due
     (DenotesBasic s at (basic_tree names c.args.basic.now)) c.from_residual-in_err-segments.result c.from_residual-in_err-segments.ensures.0 c.from_residual-in_err-segments.ensures.1
-    (λ fault h. view_fails s names at c.args.basic.now c.in_ok-lowered.lowered.block c.in_ok-lowered.ensures.is_block fault h)
+    (λ fault h. view_fails s names at c.args.basic.now c.in_ok-lowered.lowered.block (c.in_ok-lowered.ensures (MatchBlock (basic_tree (names_in c.args.session.now) c.args.basic.now)) c.requires.built.numbered (construct_at (names_in c.args.session.now) c.args.basic.now)).is_block fault h)
 
 pub returns-in-Some-clause-due : goal.returns-in-Some-clause-due
 returns-in-Some-clause-due g c =
     let s : Scope = scope_in c.args.session.now in
     let names : Names = names_in c.args.session.now in
     let at : Standing = record { graphs = c.args.graphs.now; next = c.args.next } in
-    cost_fails s names at c.args.basic.now c.in_ok-lowered.lowered.block c.in_ok-lowered.ensures.is_block c.in_ok-segments.segments
+    cost_fails s names at c.args.basic.now c.in_ok-lowered.lowered.block (c.in_ok-lowered.ensures (MatchBlock (basic_tree (names_in c.args.session.now) c.args.basic.now)) c.requires.built.numbered (construct_at (names_in c.args.session.now) c.args.basic.now)).is_block c.in_ok-segments.segments
     c.in_ok-segments.ensures.due
     c.in_ok-table.table c.in_ok-table.ensures c.in-Some.past
     (sym (c.first_past.ensures ∙ (ap (λ (costs : List CostAt). first_past costs c.as_slice.result.now) (c.deref.ensures.value ∙ c.in_ok-costs.ensures)
@@ -95,7 +97,7 @@ returns-clause-due g c =
     sym (c.first_past.ensures ∙ (ap (λ (costs : List CostAt). first_past costs c.as_slice.result.now) (c.deref.ensures.value ∙ c.in_ok-costs.ensures)
     ∙ ap (λ (rows : List (List Binding)). first_past (costs_of s (basic_tree names c.args.basic.now)) rows) (c.as_slice.ensures ∙ c.rows.ensures.rows))) ∙ c.in_default.is in
     passes_on (DenotesBasic s at (basic_tree names c.args.basic.now)) (Comes s at (basic_tree names c.args.basic.now) c.in_ok-segments.segments c.in_ok-table.table) c.table_made.result
-    (λ outcome h. costs_fit s names at c.args.basic.now c.in_ok-lowered.lowered.block c.in_ok-lowered.ensures.is_block c.in_ok-segments.segments
+    (λ outcome h. costs_fit s names at c.args.basic.now c.in_ok-lowered.lowered.block (c.in_ok-lowered.ensures (MatchBlock (basic_tree (names_in c.args.session.now) c.args.basic.now)) c.requires.built.numbered (construct_at (names_in c.args.session.now) c.args.basic.now)).is_block c.in_ok-segments.segments
     c.in_ok-segments.ensures.due
     c.in_ok-table.table c.in_ok-table.ensures none outcome h)
     c.table_made.ensures.due

@@ -1,4 +1,4 @@
-use Rattle.std.proofs.Common.{◌≡◌, ◌++◌, ◌∙◌, append-nil, map, rules, sym, ap}
+use Rattle.std.proofs.Common.{◌≡◌, ◌++◌, ◌∙◌, append-nil, map, refl, rules, subst, sym, ap}
 use Rattle.std.specs.Option.{option_copied}
 use Rattle.gc_alg.specs.Views.{block_tree}
 use Rattle.gc_ast.specs.declared.construct.Change.{the_lemmas}
@@ -12,6 +12,7 @@ use Rattle.gc_lower.specs.Namings.{scope_in}
 use Rattle.gc_lower.specs.Scopes.{Scope}
 use Rattle.gc_query.specs.Answered.{names_in}
 use Rattle.gc_query.specs.Answered as answered
+use Rattle.gc_query.specs.Built.{IsHeadNumbered}
 use Rattle.gc_query.specs.Logs.{explained_head, named_view, word_if}
 use Rattle.gc_query.proofs.EvaluationLaws.{if_told}
 use Rattle.gc_query.proofs.QueryParts.{path_head}
@@ -25,7 +26,7 @@ returns-in_ok-lowered-in-Path c =
     let head : head_tree names c.args.head.now ≡ _ = ap (head_tree names) c.in-Path.is ∙ path_head names c.in-Path.name c.in-Path.chains c.in-Path.filter c.in-Path.cost in
     if_told c.push_named.result _ _
     (λ is. is ∙ ap (λ views. map view_of c.args.views.now.items ++ views)
-    ((λ i. named_view (c.word_at.ensures i) (c.name_at.ensures.name i) (c.in_ok-lowered-in-Path.ensures.is_block i)) ∙ sym (ap (explained_head s c.args.named.now.names c.args.graph) head)))
+    ((λ i. named_view (c.word_at.ensures i) (c.name_at.ensures.name i) ((c.in_ok-lowered-in-Path.ensures _ (subst (IsHeadNumbered s) head c.requires) refl).is_block i)) ∙ sym (ap (explained_head s c.args.named.now.names c.args.graph) head)))
     c.push_named.ensures
 
 pub returns-in-Graph : goal.returns-in-Graph

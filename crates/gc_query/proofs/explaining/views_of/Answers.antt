@@ -6,6 +6,7 @@ use Rattle.gc_lower.specs.Namings.{scope_in}
 use Rattle.gc_lower.specs.Scopes.{Scope}
 use Rattle.gc_query.specs.Answered as answered
 use Rattle.gc_query.proofs.AllOf.{got}
+use Rattle.gc_query.proofs.BlocksFound.{head_numbered}
 use Rattle.gc_query.proofs.ExplainedViews.{head_more, head_over, none_shown}
 use Rattle.gc_query.proofs.PathHeads.{head_at, head_count}
 use Rattle.gc_query.proofs.UsesLaws.{empty_list}
@@ -35,3 +36,13 @@ returns c =
     let items = c.deref-head-items.result.now in
     let many : length s.views ≡ length items = head_count file c.file.result.now c.file.ensures.file c.in_ok-heads.heads.items items c.in_ok-heads.ensures c.deref-head-items.ensures.value in
     head_over s c.args.named.now.names s.views c.args.uses.now c.loop-number.number (map view_of c.loop-number.views.items) (omega (arith, many, c.loop-number-test.false)) c.loop-number.invariant
+
+pub push_uses-requires : goal.push_uses-requires
+unfolding scope_in
+push_uses-requires c =
+    let s : Scope = answered.scope_in c.args.session.now in
+    let file : File = c.args.session.now.checked.now.file in
+    let items = c.deref-head-items.result.now in
+    let at : slice_get items c.loop-number.number ≡ Some c.head-item.result = got items c.loop-number.number c.head-item.result (omega arith) c.head-item.is in
+    head_numbered s s.views c.loop-number.number (head_tree file.names c.head-item.result.now) c.requires
+    (head_at file c.file.result.now c.file.ensures.file c.in_ok-heads.heads.items items c.in_ok-heads.ensures c.deref-head-items.ensures.value c.loop-number.number c.head-item.result at)

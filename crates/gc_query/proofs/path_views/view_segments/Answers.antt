@@ -1,4 +1,4 @@
-use Rattle.std.proofs.Common.{◌≡◌, true, sym, ap, ◌∙◌}
+use Rattle.std.proofs.Common.{◌≡◌, refl, true, sym, ap, ◌∙◌}
 use Rattle.gc_lower.specs.Namings.{scope_in}
 use Rattle.gc_query.specs.Answered.{declared_in, names_in}
 use Rattle.gc_query.specs.Answered as answered
@@ -10,14 +10,14 @@ use Rattle.gc_query.proofs.path_views.view_segments.Goals as goal
 
 pub block_segments-requires-clause-block : goal.block_segments-requires-clause-block
 unfolding scope_in
-block_segments-requires-clause-block g c = c.in_ok-lowered.ensures.is_block
+block_segments-requires-clause-block g c = (c.in_ok-lowered.ensures _ c.requires refl).is_block
 
 pub block_segments-requires-clause-searched : goal.block_segments-requires-clause-searched
 unfolding scope_in
 block_segments-requires-clause-searched g c =
     let d : Declared = declared_in (names_in c.args.session.now) c.args.view.now in
     let plain : is_view d ≡ true = sym (c.is_plain_view.ensures (names_in c.args.session.now)) ∙ c.if-not-is_plain_view.false in
-    ap are_searched c.in_ok-lowered.ensures.is_block ∙ view_searched (answered.scope_in c.args.session.now) c.args.graph d plain
+    ap are_searched (c.in_ok-lowered.ensures _ c.requires refl).is_block ∙ view_searched (answered.scope_in c.args.session.now) c.args.graph d plain
 
 pub returns-clause-due : goal.returns-clause-due
 returns-clause-due g c =

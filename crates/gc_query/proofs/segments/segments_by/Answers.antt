@@ -12,6 +12,7 @@ use Rattle.gc_query.specs.Segments.{OfUses}
 use Rattle.gc_query.specs.UsedViews.{in_turn, uses_of}
 use Rattle.gc_query.specs.Uses.{Fails, Gains}
 use Rattle.gc_query.proofs.AllOf.{got}
+use Rattle.gc_query.proofs.BlocksFound.{head_numbered}
 use Rattle.gc_query.proofs.Outcomes.{refused}
 use Rattle.gc_query.proofs.PathHeads.{head_at, head_count}
 use Rattle.gc_query.proofs.UsesLaws.{all_gained, gains_none, head_fails, head_gains, no_head, none_used, one_failed}
@@ -64,3 +65,13 @@ returns-clause-due g c =
     let many : length s.views ≡ length items = head_count file c.file.result.now c.file.ensures.file c.in_ok-heads.heads.items items c.in_ok-heads.ensures c.deref-head-items.ensures.value in
     all_gained s c.args.graphs.now (in_turn 0 s.views c.args.uses.now) c.loop-number.table
     (no_head s c.args.graphs.now s.views c.args.uses.now c.loop-number.number [] c.loop-number.table c.loop-number.invariant.0 (omega (arith, many, c.loop-number-test.false)))
+
+pub add_uses-requires : goal.add_uses-requires
+unfolding scope_in
+add_uses-requires g c =
+    let s : Scope = answered.scope_in c.args.session.now in
+    let file : File = c.args.session.now.checked.now.file in
+    let items = c.deref-head-items.result.now in
+    let at : slice_get items c.loop-number.number ≡ Some c.head-item.result = got items c.loop-number.number c.head-item.result (omega arith) c.head-item.is in
+    head_numbered s s.views c.loop-number.number (head_tree file.names c.head-item.result.now) c.requires
+    (head_at file c.file.result.now c.file.ensures.file c.in_ok-heads.heads.items items c.in_ok-heads.ensures c.deref-head-items.ensures.value c.loop-number.number c.head-item.result at)
