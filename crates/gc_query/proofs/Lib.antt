@@ -1,5 +1,6 @@
 mod AllPathsSearched
 mod BasicsMade
+mod BlockNumbers
 mod BuiltFiles
 mod BuiltRests
 mod CostLaws

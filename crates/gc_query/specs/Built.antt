@@ -1,5 +1,5 @@
 -- Which query files are built.
-use Rattle.std.specs.Prelude.{◌≡◌, ⊤, Bool, true, ◌&&◌, []}
+use Rattle.std.specs.Prelude.{◌≡◌, ℕ, ⊤, Bool, true, ◌&&◌, List, [], ◌∷◌, Some, slice_get}
 use Rattle.std.specs.List.{AllByRecursion, list_all}
 use Rattle.gc_alg.specs.Tables.{block_variables}
 use Rattle.gc_alg.specs.Trees as alg
@@ -7,7 +7,7 @@ use Rattle.gc_alg.specs.Trees.{ABlock, BlockOf, PartOf, ConjunctOf, ExistsOf}
 use Rattle.gc_alg.specs.declared.atom.AtomWhat.{AtomWhat}
 use Rattle.gc_alg.specs.declared.atom.AtomWhat.TheVariants as atom
 use Rattle.gc_ast.specs.Trees as ast
-use Rattle.gc_ast.specs.Trees.{Tree, AStatement, View, Ask, Query, NextTerm, BasicTerm, GraphTerm, QueryTerm, PathHead, GraphHead}
+use Rattle.gc_ast.specs.Trees.{Tree, AHead, AStatement, View, Ask, Query, NextTerm, BasicTerm, GraphTerm, QueryTerm, PathHead, GraphHead}
 use Rattle.gc_build.specs.Linked.{HasLinksOf}
 use Rattle.gc_build_reading.specs.FoundPaths.{found_variables}
 use Rattle.gc_build_reading.specs.Recipes.{recipe_of}
@@ -15,6 +15,7 @@ use Rattle.gc_build_recipe.specs.Recipes.{Recipe}
 use Rattle.gc_cert_searches.specs.Patterns.{AreOnly}
 use Rattle.gc_rows.specs.Algebra.{joined_schema}
 use Rattle.gc_walks.specs.Expressions.{is_searchable}
+use Rattle.gc_sorts.specs.Blocks.{Block, MatchBlock, ViewBlock, block_at, token_of}
 use Rattle.gc_lower.specs.Blocks.{block_of}
 use Rattle.gc_lower.specs.Namings.{QueryFile, scope_in}
 use Rattle.gc_lower.specs.Scopes.{Scope}
@@ -42,12 +43,27 @@ are_searched (alg.more t ts) = are_searched t && are_searched ts
 abbrev pub asked_on : Scope → ast.Tree ast.ABasic → alg.Tree ABlock → Recipe
 asked_on s basic block = recipe_of s (joined_schema [] (block_variables block)) (found_variables block) basic
 
+-- a block that stands in no WHERE is found by its token
+pub record IsNumbered (s : Scope) (block : Block) : Type 0 where
+  pub number : ℕ
+  pub at : block_at s.blocks (token_of block) ≡ Some number
+  pub there : slice_get s.blocks number ≡ Some (record { around = []; block = block })
+
+-- those of views are, by the heads that declare these
+abbrev pub AreNumbered : Scope → List (Tree AHead) → Type 0
+AreNumbered s [] = ⊤
+AreNumbered s (PathHead name chains filter cost ∷ heads) = IsNumbered s (ViewBlock name.token chains filter) × AreNumbered s heads
+AreNumbered s (GraphHead name query ∷ heads) = AreNumbered s heads
+
 -- a CONSTRUCT is built where its MATCH looks for walks by expressions that have automata, each found path stands at one pattern of it, and
--- what it asks for has the links of the block: so what it claims is of one graph
+-- what it asks for has the links of the block: so what it claims is of one graph; and where its MATCH and the views of the file are found by
+-- their tokens
 pub record IsBasicBuilt (s : Scope) (basic : ast.Tree ast.ABasic) : Type 0 where
   pub searched : are_searched (block_of s [] basic) ≡ true
   pub only : AreOnly (block_of s [] basic)
   pub links : HasLinksOf (block_of s [] basic) (alg.reads_of (block_of s [] basic)) (asked_on s basic (block_of s [] basic))
+  pub numbered : IsNumbered s (MatchBlock basic)
+  pub views : AreNumbered s s.views
 
 -- a file is built, as the grammar and the sort rules let none not be
 unfoldable pub IsBuilt : {k : ast.Kind} → Scope → Tree k → Type 0
