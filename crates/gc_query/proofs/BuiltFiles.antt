@@ -1,6 +1,7 @@
 -- A query file whose expressions have parts, and that breaks no sort rule, is built.
 use Rattle.std.proofs.Common.{◌≡◌, inl, inr, ⊎_elim, ◌⊎◌, ℕ, zero, suc, ◌+◌, true, List, [], ◌∷◌, ◌++◌, length, take, drop, None, refl, sym, subst, ◌∙◌, arith}
 use Rattle.std.specs.List.{AllByRecursion, Contains, flat_map, list_any}
+use Rattle.std.proofs.lemmas.List.{append-nil}
 use Rattle.std.proofs.lemmas.List.Elements.{Contains-append_cases}
 use Rattle.gc_ast.specs.Names.{same_name}
 use Rattle.gc_rows.proofs.Members.{from_map, of_member}
@@ -9,6 +10,7 @@ use Rattle.gc_expr.specs.Trees.{TreeOf, AnExpr, renamed}
 use Rattle.gc_ast.specs.Trees as tree
 use Rattle.gc_ast.specs.Trees.{Kind, Tree, AStatement, AQuery, ATerm, AFormula, ABasic, ABlock, AnItem, AnOptional, RowOf, row}
 use Rattle.gc_values.specs.declared.reads.ReadUse.{ReadUse}
+use Rattle.gc_sorts.specs.Blocks.{both, blocks, file_blocks}
 use Rattle.gc_sorts.specs.Constructs.{item_made, item_stored}
 use Rattle.gc_sorts.specs.Occurrences.{Occurrences, occurrences}
 use Rattle.gc_sorts.specs.Reads.{hidden_from}
@@ -24,9 +26,10 @@ use Rattle.gc_lower.specs.Conditions.{and_parts, dealt, exists_count}
 use Rattle.gc_lower.specs.Namings.{QueryFile, occurrences_of, scope_in}
 use Rattle.gc_lower.specs.Reads.{reads_of}
 use Rattle.gc_lower.specs.Scopes.{Scope, variable_of}
-use Rattle.gc_query.specs.Built.{AreBuilt, IsBasicBuilt, IsBuilt, are_searched}
+use Rattle.gc_query.specs.Built.{AreBuilt, AreNumbered, IsBasicBuilt, IsBuilt, are_searched}
 use Rattle.gc_query.specs.Expressions.{EachExpression, EachHasParts}
 use Rattle.gc_query.specs.InOrder.{IsInOrder}
+use Rattle.gc_query.proofs.BlockNumbers.{IsOuter, Stands, match_found, stands_behind, stands_left, views_found}
 use Rattle.gc_query.proofs.BasicLinks.{IsDistinctBasic, all_names, all_tokens, basic_links, match_tokens, optional_tokens, site_token}
 use Rattle.gc_query.proofs.HiddenLaws.{IsUnnamedIn, are_apart}
 use Rattle.gc_query.proofs.InOrderLaws.{items_made_named, items_sites_lie, match_fine}
@@ -127,9 +130,9 @@ module _ (s : Scope) (os : Occurrences) (is : (t : ℕ) → s.hidden_at t ≡ hi
   unfolding IsInOrder occurrences
   distinct o token items main optionals from upto order whole =
       let mid : ℕ = order.0 in
-      let sites = items_sites_lie s.names s from items mid order.2 in
-      let match = match_fine s.names s mid order.1 main optionals upto order.3 order.4 in
-      let made = items_made_named s.names from items mid order.2 in
+      let sites = items_sites_lie s.names s (token + 1) items mid order.3 in
+      let match = match_fine s.names s mid order.1 main optionals upto order.4 order.5 in
+      let made = items_made_named s.names (token + 1) items mid order.3 in
       let uses = block_uses main ++ all_of optional_uses optionals in
       record {
         apart = are_apart s os is (all_names items main optionals) (all_tokens s items main optionals)
@@ -154,42 +157,50 @@ module _ (s : Scope) (os : Occurrences) (is : (t : ℕ) → s.hidden_at t ≡ hi
   abbrev pub Among : Occurrences → Type 0
   Among part = (n : ℕ) → IsUnnamedIn n part → IsUnnamedIn n os
 
-  basic_built : (v : Sights) → v.uses ≡ [] → (o : occurrence.Scope) (basic : Tree ABasic) (from upto : ℕ) → EachHasParts basic → IsUnbroken (breaches v basic) → IsInOrder s.names from basic upto
-      → Among (occurrences o basic) → IsBasicBuilt s basic
-  unfolding breaches IsInOrder
-  basic_built v none o (tree.Basic token items main optionals) from upto parts h order among = record {
-    searched = block_searched s v [] (tree.Basic token items main optionals) parts h;
-    only = only_patterns s (graphs_in v) token items main optionals (distinct o token items main optionals from upto order among)
-        (subst (λ us. IsUnbroken (match_breaches us main optionals)) none h.0) (subst (λ us. IsUnbroken (construct_breaches (graphs_in v) us items main optionals)) none h.1.0)
-        (match_lies s.names s order.0 order.1 main optionals upto order.3 order.4).one;
-    links = basic_links s (graphs_in v) token items main optionals (distinct o token items main optionals from upto order among)
-        (subst (λ us. IsUnbroken (match_breaches us main optionals)) none h.0) (subst (λ us. IsUnbroken (construct_breaches (graphs_in v) us items main optionals)) none h.1.0);
-  }
+  -- each tree, whatever is in scope, where its blocks stand among those of the file and those of the views are found by their tokens
+  module _ (views : AreNumbered s s.views) where
+    basic_built : (v : Sights) → v.uses ≡ [] → (o : occurrence.Scope) (basic : Tree ABasic) (from upto : ℕ) → EachHasParts basic → IsUnbroken (breaches v basic) → IsInOrder s.names from basic upto
+        → Stands s.blocks from (blocks [] basic) → Among (occurrences o basic) → IsBasicBuilt s basic
+    unfolding breaches IsInOrder
+    basic_built v none o (tree.Basic token items main optionals) from upto parts h order stands among = record {
+      searched = block_searched s v [] (tree.Basic token items main optionals) parts h;
+      only = only_patterns s (graphs_in v) token items main optionals (distinct o token items main optionals from upto order among)
+          (subst (λ us. IsUnbroken (match_breaches us main optionals)) none h.0) (subst (λ us. IsUnbroken (construct_breaches (graphs_in v) us items main optionals)) none h.1.0)
+          (match_lies s.names s order.0 order.1 main optionals upto order.4 order.5).one;
+      links = basic_links s (graphs_in v) token items main optionals (distinct o token items main optionals from upto order among)
+          (subst (λ us. IsUnbroken (match_breaches us main optionals)) none h.0) (subst (λ us. IsUnbroken (construct_breaches (graphs_in v) us items main optionals)) none h.1.0);
+      numbered = match_found s s.names from (tree.Basic token items main optionals) upto order stands;
+      views = views;
+    }
 
-  -- each tree, whatever is in scope
-  built_of : {k : Kind} (v : Sights) → v.uses ≡ [] → (o : occurrence.Scope) (t : Tree k) (from upto : ℕ) → EachHasParts t → IsUnbroken (breaches v t) → IsInOrder s.names from t upto → Among (occurrences o t)
-      → IsBuilt s t
-  unfolding EachExpression breaches IsBuilt IsInOrder occurrences
-  built_of v none o (tree.Ask query) from upto parts h order among = built_of v none o query from upto parts h order among
-  built_of v none o (tree.View g query) from upto parts h order among = built_of v none o query from upto parts h.1 order among
-  built_of v none o (tree.Query heads first rest) from upto parts h order among =
-      let later = all_behind v heads ∙ none in (
-        built_of v none o heads from order.0 parts.0 h.0 order.2 (λ n k. among n (inl k)),
-        built_of (behind_all v heads) later (occurrence.behind o heads) first order.0 order.1 parts.1 h.1.0 order.3 (λ n k. among n (inr (inl k))),
-        built_of (behind_all v heads) later (occurrence.behind (occurrence.behind o heads) first) rest order.1 upto parts.2 h.1.1 order.4 (λ n k. among n (inr (inr k))),
-      )
-  built_of v none o (tree.PathHead name chains filter cost) from upto parts h order among = tt
-  built_of v none o (tree.GraphHead g query) from upto parts h order among = built_of v none o query from upto parts h.1 order among
-  built_of v none o (tree.BasicTerm basic) from upto parts h order among = basic_built v none o basic from upto parts h order among
-  built_of v none o (tree.GraphTerm g) from upto parts h order among = tt
-  built_of v none o (tree.QueryTerm query) from upto parts h order among = built_of v none o query from upto parts h order among
-  built_of v none o (tree.NextTerm op term) from upto parts h order among = built_of v none o term from upto parts h order among
-  built_of v none o tree.none from upto parts h order among = tt
-  built_of v none o (tree.more t ts) from upto parts h order among = (
-    built_of v none o t from order.0 parts.0 h.0 order.1 (λ n k. among n (inl k)),
-    built_of (behind v t) (behind_uses v t ∙ none) (occurrence.behind o t) ts order.0 upto parts.1 h.1 order.2 (λ n k. among n (inr k)),
-  )
-  built_of v none o other from upto parts h order among = tt
+    built_of : {k : Kind} (v : Sights) → v.uses ≡ [] → (o : occurrence.Scope) (t : Tree k) (from upto : ℕ) → IsOuter k → EachHasParts t → IsUnbroken (breaches v t) → IsInOrder s.names from t upto
+        → Stands s.blocks from (blocks [] t) → Among (occurrences o t) → IsBuilt s t
+    unfolding EachExpression breaches IsBuilt IsInOrder occurrences blocks
+    built_of v none o (tree.Ask query) from upto outer parts h order stands among = built_of v none o query from upto tt parts h order stands among
+    built_of v none o (tree.View g query) from upto outer parts h order stands among = built_of v none o query from upto tt parts h.1 order stands among
+    built_of v none o (tree.Query heads first rest) from upto outer parts h order stands among =
+        let later = all_behind v heads ∙ none in
+        let late = both (blocks [] first) (blocks [] rest) in
+        let next = stands_behind s.names s.blocks from heads order.0 late tt order.2 stands in (
+          built_of v none o heads from order.0 tt parts.0 h.0 order.2 (stands_left s.blocks from (blocks [] heads) late stands) (λ n k. among n (inl k)),
+          built_of (behind_all v heads) later (occurrence.behind o heads) first order.0 order.1 tt parts.1 h.1.0 order.3
+              (stands_left s.blocks order.0 (blocks [] first) (blocks [] rest) next) (λ n k. among n (inr (inl k))),
+          built_of (behind_all v heads) later (occurrence.behind (occurrence.behind o heads) first) rest order.1 upto tt parts.2 h.1.1 order.4
+              (stands_behind s.names s.blocks order.0 first order.1 (blocks [] rest) tt order.3 next) (λ n k. among n (inr (inr k))),
+        )
+    built_of v none o (tree.PathHead name chains filter cost) from upto outer parts h order stands among = tt
+    built_of v none o (tree.GraphHead g query) from upto outer parts h order stands among = built_of v none o query from upto tt parts h.1 order stands among
+    built_of v none o (tree.BasicTerm basic) from upto outer parts h order stands among = basic_built v none o basic from upto parts h order stands among
+    built_of v none o (tree.GraphTerm g) from upto outer parts h order stands among = tt
+    built_of v none o (tree.QueryTerm query) from upto outer parts h order stands among = built_of v none o query from upto tt parts h order stands among
+    built_of v none o (tree.NextTerm op term) from upto outer parts h order stands among = built_of v none o term from upto tt parts h order stands among
+    built_of v none o tree.none from upto outer parts h order stands among = tt
+    built_of v none o (tree.more t ts) from upto outer parts h order stands among = (
+      built_of v none o t from order.0 outer parts.0 h.0 order.1 (stands_left s.blocks from (blocks [] t) (blocks [] ts) stands) (λ n k. among n (inl k)),
+      built_of (behind v t) (behind_uses v t ∙ none) (occurrence.behind o t) ts order.0 upto outer parts.1 h.1 order.2
+          (stands_behind s.names s.blocks from t order.0 (blocks [] ts) outer order.1 stands) (λ n k. among n (inr k)),
+    )
+    built_of v none o other from upto outer parts h order stands among = tt
 
 each_built : (s : Scope) (statements : List (Tree AStatement)) → IsBuilt s (row statements) → AllByRecursion (IsBuilt s) statements
 unfolding IsBuilt
@@ -200,6 +211,9 @@ each_built s (t ∷ ts) h = (h.0, each_built s ts h.1)
 pub file_built : (f : QueryFile) (upto : ℕ) → EachHasParts (row f.statements) → IsInOrder f.names 0 (row f.statements) upto → first_breach f.graphs (row f.statements) ≡ None → AreBuilt f
 unfolding scope_in
 file_built f upto parts order h =
+    let stands : Stands (file_blocks (row f.statements)) 0 (blocks [] (row f.statements)) =
+    record { before = []; later = []; whole = sym (append-nil (file_blocks (row f.statements))); below = λ token low. tt } in
     each_built (scope_in f 0) f.statements
-    (built_of (scope_in f 0) (occurrences_of f) (λ t. refl) (record { loaded = f.graphs; declared = []; views = []; uses = [] }) refl (occurrence.outside f.graphs) (row f.statements) 0 upto parts (unbroken _ h) order
+    (built_of (scope_in f 0) (occurrences_of f) (λ t. refl) (views_found (scope_in f 0) f.names 0 (row f.statements) upto tt order stands)
+    (record { loaded = f.graphs; declared = []; views = []; uses = [] }) refl (occurrence.outside f.graphs) (row f.statements) 0 upto tt parts (unbroken _ h) order stands
     (λ n k. k))

@@ -369,8 +369,9 @@ order_wider names low from upto high (tree.NextTerm op term) l h n = order_wider
 order_wider names low from upto high (tree.BasicTerm basic) l h n = order_wider names low from upto high basic l h n
 order_wider names low from upto high (tree.QueryTerm query) l h n = order_wider names low from upto high query l h n
 order_wider names low from upto high (tree.GraphHead name query) l h n = order_wider names low from upto high query l h n
+order_wider names low from upto high (tree.PathHead name chains filter cost) l h n = ((let a = n.0 in omega (arith, a, l)), (let a = n.1 in omega (arith, a, h)))
 order_wider names low from upto high (tree.Basic token items main optionals) l h n =
-    (n.0, n.1, order_wider names low from n.0 n.0 items l (omega arith) n.2, n.3, order_wider names n.1 n.1 upto high optionals (omega arith) h n.4)
+    (n.0, n.1, (let a = n.2 in omega (arith, a, l)), n.3, n.4, order_wider names n.1 n.1 upto high optionals (omega arith) h n.5)
 order_wider names low from upto high (tree.Block patterns filter) l h n =
     (n.0, order_wider names low from n.0 n.0 patterns l (omega arith) n.1, (let a = n.2 in omega (arith, a, h)))
 order_wider names low from upto high (tree.Optional token block) l h n = order_wider names low from upto high block l h n
@@ -397,3 +398,53 @@ order_wider names low from upto high tree.none l h n = omega (arith, l, h, n)
 order_wider names low from upto high (tree.more t ts) l h n =
     (n.0, order_wider names low from n.0 n.0 t l (omega arith) n.1, order_wider names n.0 n.0 upto high ts (omega arith) h n.2)
 order_wider names low from upto high other l h n = omega (arith, l, h, n)
+
+-- what stands between two numbers, of which the second is no lower
+name_up : (names : Names) (from : ℕ) (x : Named) (upto : ℕ) → IsNameIn names from x upto → from ≤ upto
+name_up names from x upto n = let a = n.low in let b = n.high in omega (arith, a, b)
+
+pub if_up : (names : Names) (from : ℕ) (o : Option Named) (upto : ℕ) → IsNameIf names from o upto → from ≤ upto
+if_up names from None upto n = n
+if_up names from (Some x) upto n = name_up names from x upto n
+
+pub order_up : (names : Names) {k : Kind} (from : ℕ) (t : Tree k) (upto : ℕ) → IsInOrder names from t upto → from ≤ upto
+unfolding IsInOrder
+order_up names from (tree.View name query) upto n = order_up names from query upto n
+order_up names from (tree.Ask query) upto n = order_up names from query upto n
+order_up names from (tree.Query heads first rest) upto n =
+    let a = order_up names from heads n.0 n.2 in
+    let b = order_up names n.0 first n.1 n.3 in
+    let c = order_up names n.1 rest upto n.4 in
+    omega (arith, a, b, c)
+order_up names from (tree.NextTerm op term) upto n = order_up names from term upto n
+order_up names from (tree.BasicTerm basic) upto n = order_up names from basic upto n
+order_up names from (tree.QueryTerm query) upto n = order_up names from query upto n
+order_up names from (tree.PathHead name chains filter cost) upto n = let a = n.0 in let b = n.1 in omega (arith, a, b)
+order_up names from (tree.GraphHead name query) upto n = order_up names from query upto n
+order_up names from (tree.Basic token items main optionals) upto n =
+    let low = n.2 in
+    let a = order_up names (token + 1) items n.0 n.3 in
+    let b = order_up names n.0 main n.1 n.4 in
+    let c = order_up names n.1 optionals upto n.5 in
+    omega (arith, low, a, b, c)
+order_up names from (tree.Block patterns filter) upto n = let a = order_up names from patterns n.0 n.1 in let b = n.2 in omega (arith, a, b)
+order_up names from (tree.Optional token block) upto n = order_up names from block upto n
+order_up names from (tree.Located parts on) upto n = let a = order_up names from parts n.0 n.1 in let b = n.2 in omega (arith, a, b)
+order_up names from (tree.Node element) upto n = order_up names from element upto n
+order_up names from (tree.Edge way element) upto n = order_up names from element upto n
+order_up names from (tree.Path token regex_at body) upto n = order_up names from body upto n
+order_up names from (tree.Element token name labels properties) upto n =
+    let low = n.1 in let a = if_up names (token + 1) name n.0 n.2 in let b = order_up names n.0 properties upto n.3 in omega (arith, low, a, b)
+order_up names from (tree.PropertyUse token property value) upto n = name_up names from value upto n
+order_up names from (tree.Reach regex views) upto n = n
+order_up names from (tree.Found k path regex views cost) upto n = let a = name_up names from path n.0 n.1 in let b = if_up names n.0 cost upto n.2 in omega (arith, a, b)
+order_up names from (tree.All path regex views) upto n = name_up names from path upto n
+order_up names from (tree.Stored path labels) upto n = name_up names from path upto n
+order_up names from (tree.ChainItem parts changes condition) upto n = let a = order_up names from parts n.0 n.1 in let b = n.2 in omega (arith, a, b)
+order_up names from (tree.NewNode element) upto n = order_up names from element upto n
+order_up names from (tree.NewEdge way element) upto n = order_up names from element upto n
+order_up names from (tree.NewStored token path labels assigns) upto n = name_up names from path upto n
+order_up names from (tree.NewElement token name copy group labels assigns) upto n = let low = n.0 in let a = if_up names (token + 1) name upto n.1 in omega (arith, low, a)
+order_up names from tree.none upto n = n
+order_up names from (tree.more t ts) upto n = let a = order_up names from t n.0 n.1 in let b = order_up names n.0 ts upto n.2 in omega (arith, a, b)
+order_up names from other upto n = n

@@ -1,6 +1,7 @@
 mod AllPathsSearched
 mod BasicsMade
 mod BlocksFound
+mod BlockNumbers
 mod BuiltFiles
 mod BuiltRests
 mod CostLaws

@@ -2,14 +2,14 @@
 use Rattle.std.proofs.Common.{◌≤◌, ℕ, List, [], ◌∷◌, ◌++◌, Option, Some, None, arith}
 use Rattle.gc_base.specs.declared.place.Sym.{Sym}
 use Rattle.gc_ast.specs.Trees as tree
-use Rattle.gc_ast.specs.Trees.{Tree, Named, RowOf, ABlock, ALocated, AnOptional, APattern, APathBody}
+use Rattle.gc_ast.specs.Trees.{Tree, RowOf, ABlock, ALocated, AnOptional, APattern, APathBody}
 use Rattle.gc_expr.specs.Views.{Names}
 use Rattle.gc_alg.specs.declared.atom.Atom.{Atom}
 use Rattle.gc_sorts.specs.Uses.{all_of}
 use Rattle.gc_lower.specs.Chains.{next_variable, node_variable, path_atom}
 use Rattle.gc_lower.specs.Scopes.{Scope, graph_of}
-use Rattle.gc_query.specs.InOrder.{IsInOrder, IsNameIf}
-use Rattle.gc_query.proofs.InOrderLaws.{Lies, lie_both, lie_wider, nothing_lies, one_lies, pattern_fine}
+use Rattle.gc_query.specs.InOrder.{IsInOrder}
+use Rattle.gc_query.proofs.InOrderLaws.{Lies, if_up, lie_both, lie_wider, nothing_lies, one_lies, pattern_fine}
 
 -- the token of the name of a walk that is looked for, and the atom of its pattern
 pub record Entry : Type 0 where
@@ -55,11 +55,6 @@ abbrev pub match_entries : Scope → Tree ABlock → Tree (RowOf AnOptional) →
 match_entries s main optionals = block_entries s main ++ all_of (optional_entries s) optionals
 
 module _ (names : Names) where
-  -- a name that may be missing ends behind where it starts
-  name_up : (from : ℕ) (name : Option Named) (upto : ℕ) → IsNameIf names from name upto → from ≤ upto
-  name_up from None upto h = h
-  name_up from (Some x) upto h = let low = h.low in let high = h.high in omega (arith, low, high)
-
   module _ (s : Scope) where
     body_lies : (graph from : ℕ) (x y : Sym) (body : Tree APathBody) (upto : ℕ) → IsInOrder names from body upto
         → Lies entry_token from (body_entries s graph x y body) upto
@@ -67,7 +62,7 @@ module _ (names : Names) where
     body_lies graph from x y (tree.Reach regex views) upto h = nothing_lies entry_token from upto h
     body_lies graph from x y (tree.Found k path regex views cost) upto h =
         let high = h.1.high in
-        let later = name_up h.0 cost upto h.2 in
+        let later = if_up names h.0 cost upto h.2 in
         one_lies entry_token from (entry_at path.token (path_atom s graph x y (tree.Found k path regex views cost))) upto h.1.low (omega (arith, high, later))
     body_lies graph from x y (tree.All path regex views) upto h = one_lies entry_token from (entry_at path.token (path_atom s graph x y (tree.All path regex views))) upto h.low h.high
     body_lies graph from x y (tree.Stored path labels) upto h = let low = h.low in let high = h.high in nothing_lies entry_token from upto (omega (arith, low, high))

@@ -19,8 +19,8 @@ abbrev pub IsNameIf : Names → (from : ℕ) → Option Named → (upto : ℕ) �
 IsNameIf names from None upto = from ≤ upto
 IsNameIf names from (Some x) upto = IsNameIn names from x upto
 
--- the CONSTRUCTs, names and elements of a tree stand between two numbers, each behind the one before, and the names are of a table; of a view
--- only its name is told, and only where it stands, and what an EXISTS and an assignment have is left out
+-- the CONSTRUCTs, names and elements of a tree stand between two numbers, each behind the one before, and the names are of a table; what an
+-- EXISTS and an assignment have is left out, and of a PATH view all but where its name stands
 unfoldable pub IsInOrder : Names → {k : Kind} → (from : ℕ) → Tree k → (upto : ℕ) → Type 0
 IsInOrder names from (View name query) upto = IsInOrder names from query upto
 IsInOrder names from (Ask query) upto = IsInOrder names from query upto

@@ -18,9 +18,10 @@ pub fn a_statement_comes_to_one_answer()
 {}
 
 /// A query file is built where it breaks no sort rule, where no juxtaposition in its regular path expressions is of no
-/// parts, and where its names and elements stand in the order of the text and its names are in its table, as the
-/// grammar has it. So what its CONSTRUCTs claim is of one graph, and each found path stands at one pattern: in the block
-/// of the MATCH of each CONSTRUCT, of all atoms only a pattern that asks for one walk has the variable of this walk.
+/// parts, and where its CONSTRUCTs, names and elements stand in the order of the text and its names are in its table, as
+/// the grammar has it. So what its CONSTRUCTs claim is of one graph, and each found path stands at one pattern: in the
+/// block of the MATCH of each CONSTRUCT, of all atoms only a pattern that asks for one walk has the variable of this
+/// walk. And the block of each CONSTRUCT that stands in no WHERE, and of each view, is found by its token.
 pub fn a_file_that_breaks_no_rule_is_built()
     ensures { (f : QueryFile) (upto : ℕ) → EachHasParts (row f.statements) → IsInOrder f.names 0 (row f.statements) upto
         → first_breach f.graphs (row f.statements) ≡ None → AreBuilt f }

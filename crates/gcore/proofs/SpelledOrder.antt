@@ -1,4 +1,4 @@
--- The names and elements of a file that tokens spell stand in the order of the text.
+-- The CONSTRUCTs, names and elements of a file that tokens spell stand in the order of the text.
 use Rattle.std.proofs.Common.{◌≡◌, ⊎_elim, ◌≤◌, ◌+◌, ◌||◌, ℕ, zero, suc, Bool, true, false, cond, List, [], ◌∷◌, ◌++◌, fold, Option, Some, None, refl, sym, ap, ◌∙◌, subst, arith}
 use Rattle.std.specs.List.{Contains, list_any}
 use Rattle.std.proofs.lemmas.List.Elements.{Contains-append_cases, Contains-push_cases}
@@ -14,7 +14,7 @@ use Rattle.gc_expr.specs.Views.{Names}
 use Rattle.gc_ast.specs.Names.{same_name, with_name}
 use Rattle.gc_base.specs.Words.{is_reserved}
 use Rattle.gc_parse_source.specs.Sources.{names_among, with_token}
-use Rattle.gc_grammar.specs.Words.{Lang, One, Point, optional, name, ◌▸◌, ◌⇒◌}
+use Rattle.gc_grammar.specs.Words.{Lang, One, optional, name, ◌▸◌, ◌⇒◌}
 use Rattle.gc_grammar.specs.Regexes.{Expression, label, any, test, view, group, atom, star, cat, alt, regex_within}
 use Rattle.gc_grammar.specs.Regexes as grammar
 use Rattle.gc_grammar.specs.Patterns.{Unplaced, angled, chain, count, edge, edge_of, element, in_turn, labels, linked, listed, located, node, path, pathbody, placed, property_use, property_uses, vchain}
@@ -388,8 +388,9 @@ module _ (widens : Widens) (names : Names) where
     unfolding IsInOrder
     basic_spans =
         made_spans Order
-        (both_span (behind_span (turn_wide order_wide) rises_one (parted_span order_wide rises_one item_spans)) (both_span (behind_span order_wide rises_one block_spans) (each_span optional_spans)))
-        (λ from upto v up h. (h.mid, h.second.mid, row_order from h.mid v.0 h.first, h.second.first, row_order h.second.mid upto v.1.1 h.second.second))
+        (both_span (next_span (parted_span order_wide rises_one item_spans)) (both_span (behind_span order_wide rises_one block_spans) (each_span optional_spans)))
+        (λ from upto v up h.
+        (h.mid, h.second.mid, omega arith, row_order (from + 1) h.mid v.0 h.first, h.second.first, row_order h.second.mid upto v.1.1 h.second.second))
 
     -- a query as a term, and a term as a query
     as_term_order : (from upto : ℕ) (q : Tree AQuery) → Order from q upto → Order from (as_term q) upto
@@ -428,18 +429,17 @@ module _ (widens : Widens) (names : Names) where
         in_two : Spans names (named_query inside) (InTwo Anywhere Order) → Spans names (named_query inside) NamedIn
         in_two l = record { up = l.up; spans = λ p q ts v s h. let two = l.spans p q ts v s h in widens.order names _ p.token two.mid q.token q.token v.1 two.low (omega arith) two.second }
 
-    path_head_rises : Rises (path_head inside)
-    path_head_rises =
-        rises_made (rises_both (rises_pair rises_one name_rises) (rises_both (rises_pair rises_one (rises_parted rises_one vchain_rises)) (rises_both where_rises (rises_perhaps (rises_pair rises_one formula_rises)))))
+    path_head_spans : Spans names (path_head inside) Order
+    unfolding IsInOrder
+    path_head_spans =
+        made_spans Order
+        (both_span (behind_span name_wide rises_one (name_spans))
+        (anywhere (rises_both (rises_pair rises_one (rises_parted rises_one vchain_rises)) (rises_both where_rises (rises_perhaps (rises_pair rises_one formula_rises))))))
+        (λ from upto v up h. (h.first.low, (let a = h.first.high in let b = h.high in omega (arith, a, b))))
 
     head_spans : Spans names (head inside) Order
     unfolding NamedIn IsInOrder
-    head_spans =
-        either_span (record { up = path_head_rises.rises; spans = λ p q ts t s h. path_order p.token q.token t (path_head_rises.rises p q ts t s) s })
-        (made_spans Order (behind_span named_wide rises_one named_spans) (λ from upto v up h. h))
-      where
-        path_order : (from upto : ℕ) (t : Tree AHead) → from ≤ upto → {p q : Point} {ts : List Token} → path_head inside p ts t q → Order from t upto
-        path_order from upto t up s = subst (λ x. Order from x upto) (sym s.made) up
+    head_spans = either_span path_head_spans (made_spans Order (behind_span named_wide rises_one named_spans) (λ from upto v up h. h))
 
     next_spans : Spans names (next_term inside) Order
     unfolding IsInOrder

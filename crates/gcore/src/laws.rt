@@ -50,9 +50,10 @@ pub fn a_query_file_asks_what_its_tokens_spell()
     a_parse_is_what_tokens_spell();
 }
 
-/// No juxtaposition in a regular path expression of a file that tokens spell is of no parts, and its names and elements
-/// stand in the order of the text, with names of its table. So a query file that is read is built: each expression by
-/// which it looks for walks has an automaton, and what its CONSTRUCTs claim is of one graph.
+/// No juxtaposition in a regular path expression of a file that tokens spell is of no parts, and its CONSTRUCTs, names
+/// and elements stand in the order of the text, with names of its table. So a query file that is read is built: each
+/// expression by which it looks for walks has an automaton, what its CONSTRUCTs claim is of one graph, and the blocks
+/// that its statements evaluate are found by their tokens.
 pub fn a_query_file_that_is_read_is_built()
     ensures parts { (ts : List Token) (statements : List (Tree AStatement)) → SpellsFile ts statements → EachHasParts (row statements) }
     ensures order { (ts : List Token) (statements : List (Tree AStatement)) → SpellsFile ts statements
