@@ -1,11 +1,9 @@
 -- What a CONSTRUCT asks for has the links of the block of its MATCH, where it breaks no rule.
-use Rattle.std.proofs.Common.{◌≡◌, ◌⊎◌, inl, inr, ⊎_elim, ℕ, ◌==◌, ◌||◌, Bool, true, false, cond, List, [], ◌∷◌, ◌++◌, map, fold, Option, Some, None, is_some, refl, sym, ap, ◌∙◌, subst, arith}
-use Rattle.std.specs.Prelude.{⊤}
-use Rattle.std.specs.List.{AllByRecursion, Contains, flat_map, list_any}
+use Rattle.std.proofs.Common.{◌≡◌, ◌⊎◌, inl, inr, ⊎_elim, ℕ, ◌==◌, Bool, true, false, cond, List, [], ◌∷◌, ◌++◌, fold, Option, Some, None, refl, sym, ap, ◌∙◌, subst, arith}
+use Rattle.std.specs.List.{AllByRecursion, Contains, flat_map}
 use Rattle.std.proofs.lemmas.Bool.{eq-eqb, eqb-true}
 use Rattle.std.proofs.lemmas.List.Elements.{Contains-append_left, Contains-append_right, Contains-append_cases}
 use Rattle.std.proofs.lemmas.Grind.{flat_map-append}
-use Rattle.std.proofs.lemmas.Option.{none-some, same_Some}
 use Rattle.gc_base.proofs.SetLaws.{AllByRecursion-append}
 use Rattle.gc_base.specs.declared.place.Sym.{Sym}
 use Rattle.gc_ast.specs.Trees as tree
@@ -19,31 +17,30 @@ use Rattle.gc_alg.specs.declared.atom.Atom.{Atom}
 use Rattle.gc_alg.specs.declared.atom.AtomWhat.{AtomWhat}
 use Rattle.gc_alg.specs.declared.atom.AtomWhat.TheVariants as atom
 use Rattle.gc_build.proofs.ClaimEnds.{any_member, member_any}
-use Rattle.gc_build.specs.Linked.{AreLinked, HasLinksOf, IsReadThere}
-use Rattle.gc_build_reading.specs.FoundPaths.{found_among, found_by, found_variables}
+use Rattle.gc_build.specs.Linked.{HasLinksOf, IsReadThere}
+use Rattle.gc_build_reading.specs.FoundPaths.{found_by, found_variables}
 use Rattle.gc_build_reading.specs.Recipes.{makings_of, recipe_by, recipe_of}
 use Rattle.gc_build_reading.specs.Variables.{Makings}
-use Rattle.gc_rows.proofs.Members.{cons_cases, contains_here, contains_later, each_member, from_flat_map, from_map, of_member, to_flat_map, to_map}
+use Rattle.gc_rows.proofs.Members.{cons_cases, contains_here, contains_later, from_flat_map, from_map, of_member, to_flat_map, to_map}
 use Rattle.gc_rows.specs.Algebra.{joined_schema}
-use Rattle.gc_rows.specs.Rows.{each_once, lists, with_variable}
+use Rattle.gc_rows.specs.Rows.{lists, with_variable}
 use Rattle.gc_values.specs.declared.reads.ReadUse.{ReadUse}
 use Rattle.gc_sorts.specs.Breaches.{Breaches}
 use Rattle.gc_sorts.specs.Constructs.{Making, item_made, item_stored, making}
-use Rattle.gc_sorts.specs.Matches.{each_use, place_breaches, shared_breaches}
+use Rattle.gc_sorts.specs.Matches.{each_use, place_breaches}
 use Rattle.gc_sorts.specs.SortRules.{construct_breaches, made_by, match_breaches, match_links, match_uses}
 use Rattle.gc_sorts.specs.Uses.{all_of, block_uses, located_uses, optional_uses, pattern_uses}
 use Rattle.gc_sorts.specs.Variables.{Use, has_use, use_names}
 use Rattle.gc_lower.specs.Blocks as lower
 use Rattle.gc_lower.specs.Blocks.{block_of, optional_parts, optional_reads, part_of}
-use Rattle.gc_lower.specs.Chains.{atoms_of}
 use Rattle.gc_lower.specs.Reads.{reads_of}
 use Rattle.gc_lower.specs.Scopes.{Scope, variable_of, variable_or}
 use Rattle.gc_query.proofs.MakeLinks.{IsKnown, items_linked}
 use Rattle.gc_query.proofs.MakeSites.{Site, site_variable, sites_of}
-use Rattle.gc_query.proofs.MakeSorts.{SiteFits, items_fit, items_store, kind_role}
+use Rattle.gc_query.proofs.MakeSorts.{SiteFits, items_fit, items_store}
 use Rattle.gc_query.proofs.MatchLinks.{there_used}
-use Rattle.gc_query.proofs.MatchParts.{AreAmong, AreApart, MatchLink, OptionalsAmong, block_places, block_tokens, match_link, match_parts, place_of_name, place_used}
-use Rattle.gc_query.proofs.MatchPlaces.{AtomStands, PlaceOn, StandsOn, atoms_stand, hidden, located_places, located_tokens, named_on, place_on, stands_wider, unnamed_on, unnamed_token}
+use Rattle.gc_query.proofs.MatchParts.{AreAmong, AreApart, MatchLink, OptionalsAmong, block_places, block_tokens, match_link, place_used}
+use Rattle.gc_query.proofs.MatchPlaces.{AtomStands, PlaceOn, StandsOn, atoms_stand, located_places, named_on, place_on, stands_wider, unnamed_on, unnamed_token}
 use Rattle.gc_query.proofs.MatchReads.{AtomWalks, IsWalkPlace, ReadStands, WalkStands, all_read, atoms_walk, reads_stand, walks_wider}
 use Rattle.gc_query.proofs.MatchSorts.{is_walk_role, sort_same, walk_alone}
 use Rattle.gc_query.proofs.SearchedAtoms.{IsUnbroken}

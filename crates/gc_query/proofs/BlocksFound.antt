@@ -1,14 +1,13 @@
 -- What is found at the tokens of CONSTRUCTs and PATH heads.
-use Rattle.std.proofs.Common.{◌≡◌, ℕ, zero, suc, subst, List, [], ◌∷◌, Option, Some, None, refl, sym, ap, ◌∙◌, rules, slice_get, unwrap_or}
+use Rattle.std.proofs.Common.{◌≡◌, ℕ, zero, suc, subst, List, [], ◌∷◌, Option, Some, None, sym, ap, ◌∙◌, rules, slice_get, unwrap_or}
 use Rattle.std.specs.Option.{option_map}
-use Rattle.gc_alg.specs.Trees as alg
 use Rattle.gc_ast.specs.declared.construct.Change.{the_lemmas}
 use Rattle.gc_ast.specs.declared.query.Basic.{Basic, out-Basic}
 use Rattle.gc_ast.specs.QueryViews.{basic_by, basic_tree}
 use Rattle.gc_ast.specs.Trees.{Tree, AHead, PathHead, GraphHead}
 use Rattle.gc_base.specs.declared.place.BlockNo.{BlockNo}
 use Rattle.gc_expr.specs.Views.{Names}
-use Rattle.gc_sorts.specs.Blocks.{Block, MatchBlock, Placed, block_at, token_of}
+use Rattle.gc_sorts.specs.Blocks.{Block, MatchBlock, block_at, token_of}
 use Rattle.gc_sorts.specs.declared.checked.Checked.{Checked}
 use Rattle.gc_lower.specs.Lowerings.{asked_block, lowered, lowered_if}
 use Rattle.gc_lower.specs.Namings.{scope_in, scope_of}

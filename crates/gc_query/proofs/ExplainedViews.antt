@@ -1,5 +1,5 @@
 -- The views that a MATCH uses, as they are explained, one use after another.
-use Rattle.std.proofs.Common.{◌≡◌, ℕ, ◌+◌, ◌≤◌, ◌==◌, Bool, true, false, List, [], ◌∷◌, ◌++◌, length, take, Option, Some, append-nil, append_assoc, refl, sym, ap, ◌∙◌, slice_get}
+use Rattle.std.proofs.Common.{◌≡◌, ℕ, ◌+◌, ◌≤◌, ◌==◌, true, false, List, [], ◌∷◌, ◌++◌, length, take, Option, Some, append-nil, append_assoc, refl, sym, ap, ◌∙◌, slice_get}
 use Rattle.std.specs.List.{flat_map}
 use Rattle.gc_ast.specs.Trees as ast
 use Rattle.gc_explain_query.specs.QueryLines.{AView}

@@ -1,9 +1,8 @@
 -- The hidden variables of a file are told apart by the tokens of its unnamed elements, and stand behind its names.
-use Rattle.std.proofs.Common.{◌≡◌, ◌⊎◌, inl, inr, ⊎_elim, ◌<◌, ◌≤◌, ◌+◌, ℕ, ltb, Bool, true, false, cond, List, [], ◌∷◌, ◌++◌, length, Option, Some, None, refl, sym, ap, ◌∙◌, subst, arith, slice_get}
-use Rattle.std.specs.Prelude.{⊤, nat_eq}
-use Rattle.std.specs.List.{Contains, flat_map, list_any, position}
+use Rattle.std.proofs.Common.{◌≡◌, ◌⊎◌, inl, inr, ⊎_elim, ◌<◌, ◌≤◌, ◌+◌, ℕ, Bool, true, false, cond, List, length, Option, Some, None, refl, sym, ap, ◌∙◌, arith, slice_get}
+use Rattle.std.specs.Prelude.{nat_eq}
+use Rattle.std.specs.List.{Contains, list_any}
 use Rattle.std.specs.Option.{option_or, unwrap_or}
-use Rattle.std.specs.Cmp.Lexicographic.{bytes_decides}
 use Rattle.std.proofs.lemmas.Bool.{eq-eqb, eqb-true}
 use Rattle.std.proofs.lemmas.List.Quantifiers.{position-Some}
 use Rattle.std.proofs.lemmas.Option.{none-some, same_Some}
@@ -13,11 +12,10 @@ use Rattle.gc_base.specs.declared.place.Sym.{Sym}
 use Rattle.gc_build.proofs.ClaimEnds.{any_member}
 use Rattle.gc_expr.specs.Views.{Names}
 use Rattle.gc_sorts.specs.Occurrences.{Occurrence, Occurrences, GraphName, ViewName, Unnamed, none, one, both}
-use Rattle.gc_sorts.specs.Reads.{hidden_from, hidden_of, is_unnamed, unnamed_count}
-use Rattle.gc_lower.specs.Scopes.{Scope, number_at, numbered, variable_of}
+use Rattle.gc_sorts.specs.Reads.{hidden_from, unnamed_count}
+use Rattle.gc_lower.specs.Scopes.{Scope}
 use Rattle.gc_query.proofs.MatchLinks.{passes_later}
 use Rattle.gc_query.proofs.MatchParts.{AreApart}
-use Rattle.gc_query.proofs.MatchPlaces.{hidden}
 
 -- an unnamed element stands at a token of a file
 abbrev pub IsUnnamedAt : ℕ → Occurrence → Type 0

@@ -1,20 +1,16 @@
 -- What stands in the order of the text stands at tokens of its own.
-use Rattle.std.proofs.Common.{◌≡◌, ◌⊎◌, inl, inr, ⊎_elim, ◌<◌, ◌≤◌, ◌+◌, ℕ, Bool, true, List, [], ◌∷◌, ◌++◌, map, Option, Some, None, refl, sym, ap, ◌∙◌, subst, arith}
-use Rattle.std.specs.Prelude.{⊤}
-use Rattle.std.specs.List.{AllByRecursion, Contains, flat_map, list_any}
+use Rattle.std.proofs.Common.{◌≡◌, ⊎_elim, ◌<◌, ◌≤◌, ◌+◌, ℕ, true, List, [], ◌∷◌, ◌++◌, map, Option, Some, None, refl, sym, ap, ◌∙◌, subst, arith}
+use Rattle.std.specs.List.{AllByRecursion, Contains, list_any}
 use Rattle.std.proofs.lemmas.List.{append-nil}
-use Rattle.std.proofs.lemmas.List.Elements.{Contains-append_left, Contains-append_right, Contains-append_cases}
-use Rattle.std.proofs.lemmas.Option.{none-some, same_Some}
+use Rattle.std.proofs.lemmas.List.Elements.{Contains-append_cases}
 use Rattle.gc_ast.specs.Names.{same_name}
 use Rattle.gc_ast.specs.Trees as tree
 use Rattle.gc_ast.specs.Trees.{Tree, Kind, Named, RowOf, ABlock, ALocated, AnOptional, APattern, AnElement, APathBody, AnItem, AConstructPart, ANewElement, APropertyUse}
 use Rattle.gc_base.proofs.SetLaws.{AllByRecursion-append}
-use Rattle.gc_base.specs.declared.place.Direction.{Direction}
 use Rattle.gc_base.specs.declared.place.Sym.{Sym}
-use Rattle.gc_build_reading.specs.Places.{chain_places, edge_places, element_variable, next_variable, node_place, node_variable}
+use Rattle.gc_build_reading.specs.Places.{next_variable, node_variable}
 use Rattle.gc_expr.specs.Views.{Names}
-use Rattle.gc_ppg.specs.declared.shape.Kind.TheVariants as kind
-use Rattle.gc_rows.proofs.Members.{cons_cases, contains_here, contains_later, from_flat_map, from_map, to_map}
+use Rattle.gc_rows.proofs.Members.{cons_cases, from_map}
 use Rattle.gc_sorts.specs.Constructs.{element_made, item_made, item_stored, part_made, part_stored}
 use Rattle.gc_sorts.specs.Uses.{all_of, block_uses, body_uses, element_uses, located_uses, optional_uses, pattern_uses, property_uses, use_at, use_if}
 use Rattle.gc_sorts.specs.Variables.{Use}
@@ -23,7 +19,7 @@ use Rattle.gc_sorts.specs.declared.sort.Role.TheVariants as role
 use Rattle.gc_lower.specs.Scopes.{Scope, graph_of}
 use Rattle.gc_query.specs.InOrder.{IsInOrder, IsNameIf, IsNameIn}
 use Rattle.gc_query.proofs.BasicLinks.{match_places, match_tokens, optional_places, optional_tokens}
-use Rattle.gc_query.proofs.MakeSites.{Site, chain_sites, item_sites, part_sites, site_at, sites_of}
+use Rattle.gc_query.proofs.MakeSites.{Site, chain_sites, part_sites, sites_of}
 use Rattle.gc_query.proofs.MatchParts.{block_places, block_tokens}
 use Rattle.gc_query.proofs.MatchPlaces.{PlaceOn, element_tokens, located_places, located_tokens, pattern_tokens, place_on, unnamed_token}
 

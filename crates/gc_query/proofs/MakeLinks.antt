@@ -1,8 +1,7 @@
 -- The edges of a CONSTRUCT that breaks no rule stand in their chains es the MATCH binds them, or between nodes of the chain.
-use Rattle.std.proofs.Common.{◌≡◌, ◌⊎◌, inl, inr, ⊎_elim, ℕ, ◌==◌, ◌&&◌, ◌||◌, Bool, true, false, cond, not, List, [], ◌∷◌, ◌++◌, map, fold, Option, Some, None, is_some, refl, sym, ap, ◌∙◌, subst, arith}
-use Rattle.std.specs.Prelude.{⊤, nat_eq}
-use Rattle.std.specs.List.{AllByRecursion, Contains, filter, flat_map, list_any}
-use Rattle.std.specs.Option.{option_map, option_to_list}
+use Rattle.std.proofs.Common.{◌≡◌, ◌⊎◌, inl, inr, ⊎_elim, ℕ, ◌==◌, ◌&&◌, ◌||◌, Bool, true, false, cond, not, List, [], ◌∷◌, ◌++◌, fold, Option, Some, None, refl, sym, ap, ◌∙◌, subst, arith}
+use Rattle.std.specs.Prelude.{nat_eq}
+use Rattle.std.specs.List.{AllByRecursion, Contains, list_any}
 use Rattle.std.specs.Cmp.Lexicographic.{bytes_decides}
 use Rattle.std.proofs.lemmas.Bool.{and_parts, eq-eqb, eqb-true}
 use Rattle.std.proofs.lemmas.List.Elements.{Contains-append_left, Contains-append_right, Contains-append_cases}
@@ -21,22 +20,20 @@ use Rattle.gc_ast.specs.Trees.{Tree, Named, RowOf, ABlock, AnOptional, AnItem, A
 use Rattle.gc_build.proofs.ClaimEnds.{any_member, member_any}
 use Rattle.gc_build.proofs.WalksIn.{either_true}
 use Rattle.gc_build.specs.Fitting.{IsNodePlace}
-use Rattle.gc_build.specs.Linked.{AreLinked, HasPattern, IsBoundPlace, IsLinked, IsOwn}
+use Rattle.gc_build.specs.Linked.{AreLinked, HasPattern, IsBoundPlace, IsLinked}
 use Rattle.gc_build_reading.specs.Items.{chain_of, item_chains, part_variables}
-use Rattle.gc_build_reading.specs.Places.{chain_places, edge_place, edge_places, ends_of, item_places, node_place, path_place, places_of}
-use Rattle.gc_build_reading.specs.Recipes.{makings_of, recipe_by}
+use Rattle.gc_build_reading.specs.Places.{chain_places, edge_places, ends_of, node_place, places_of}
 use Rattle.gc_build_reading.specs.Variables.{Makings, all_terms, bound_grouping, first_places, grouping_of, is_of, new_grouping, of_kind, variable_at, variables_at, with_first}
 use Rattle.gc_build_recipe.specs.Recipes.{Chain, Recipe}
-use Rattle.gc_build_recipe.specs.declared.variable.Grouping.{Grouping}
 use Rattle.gc_build_recipe.specs.declared.variable.Grouping.TheVariants as by
 use Rattle.gc_build_recipe.specs.declared.variable.Term.{Term}
 use Rattle.gc_build_recipe.specs.declared.variable.Variable.{Variable}
 use Rattle.gc_ppg.specs.declared.shape.Kind.{Kind}
 use Rattle.gc_ppg.specs.declared.shape.Kind.TheVariants as kind
-use Rattle.gc_rows.proofs.Members.{cons_cases, contains_here, contains_later, each_member, from_filter, from_map, of_member, to_filter, to_flat_map, to_map}
+use Rattle.gc_rows.proofs.Members.{cons_cases, contains_here, contains_later, from_filter, from_map, to_filter, to_flat_map, to_map}
 use Rattle.gc_rows.specs.Rows.{lists}
 use Rattle.gc_sorts.specs.Breaches.{broken_if}
-use Rattle.gc_sorts.specs.Constructs.{Making, is_later, item_made, item_stored, part_stored, second_edge}
+use Rattle.gc_sorts.specs.Constructs.{Making, is_later, item_stored, part_stored, second_edge}
 use Rattle.gc_sorts.specs.Links.{Link, bound_link, bracket, fits, is_either, loose_edge, loose_item, loose_parts, name_if, same_neighbour, same_way, turned}
 use Rattle.gc_sorts.specs.Patterns.{each}
 use Rattle.gc_sorts.specs.Uses.{all_of, use_at}
@@ -46,12 +43,12 @@ use Rattle.gc_sorts.specs.declared.sort.Sort.TheVariants as sort
 use Rattle.gc_sorts.specs.declared.sort.Role.{Role}
 use Rattle.gc_sorts.specs.declared.sort.Role.TheVariants as role
 use Rattle.gc_lower.specs.Scopes.{Scope, variable_of, variable_or}
-use Rattle.gc_query.proofs.MakeSites.{Ends, Place, EdgeSite, IsElement, IsPart, IsPlaceOf, IsSite, Site, a_node, a_stored, an_edge, chain_part, chain_sites, edge_places_are, is_edge, is_node, item_sites, node_listed, node_placed, nodes_of, of_site, of_stored, place_of_items, site_is, site_variable, sites_of}
+use Rattle.gc_query.proofs.MakeSites.{Place, EdgeSite, IsElement, IsPart, IsPlaceOf, IsSite, Site, a_node, a_stored, an_edge, chain_part, chain_sites, edge_places_are, node_listed, node_placed, nodes_of, of_site, of_stored, place_of_items, site_is, site_variable, sites_of}
 use Rattle.gc_query.proofs.MakeSorts.{SiteFits, StoredFits, first_matched, kind_role, not_stored, site_role}
-use Rattle.gc_query.proofs.MatchLinks.{IsEdgePattern, IsPathName, there_used, use_there}
+use Rattle.gc_query.proofs.MatchLinks.{IsEdgePattern, IsPathName}
 use Rattle.gc_query.proofs.MatchParts.{AreApart, MatchLink}
 use Rattle.gc_query.proofs.MatchPlaces.{hidden}
-use Rattle.gc_query.proofs.MatchSorts.{first_there, has_first, is_walk_role}
+use Rattle.gc_query.proofs.MatchSorts.{has_first, is_walk_role}
 use Rattle.gc_query.proofs.SearchedAtoms.{IsUnbroken, not_broken}
 
 same_var : (x y : Sym) → (x.0 == y.0) ≡ true → x ≡ y

@@ -1,33 +1,25 @@
 -- The sites of nodes and edges in the items of a CONSTRUCT, with what stands beside them.
-use Rattle.std.proofs.Common.{◌≡◌, ◌⊎◌, inl, inr, ⊎_elim, ℕ, ◌==◌, ◌||◌, Bool, true, false, cond, List, [], ◌∷◌, ◌++◌, map, fold, Option, Some, None, refl, sym, ap, ◌∙◌, subst, arith}
-use Rattle.std.specs.Prelude.{⊤}
-use Rattle.std.specs.List.{AllByRecursion, Contains, list_any}
+use Rattle.std.proofs.Common.{◌≡◌, ⊎_elim, ℕ, List, [], ◌∷◌, ◌++◌, Option, Some, None, refl, sym, ap, subst, arith}
+use Rattle.std.specs.List.{Contains}
 use Rattle.std.specs.Option.{option_to_list}
-use Rattle.std.proofs.lemmas.Bool.{eq-eqb, eqb-true}
 use Rattle.std.proofs.lemmas.List.Elements.{Contains-append_left, Contains-append_right, Contains-append_cases}
 use Rattle.std.proofs.lemmas.Option.{none-some, same_Some}
 use Rattle.gc_base.specs.declared.place.Direction.{Direction}
-use Rattle.gc_base.specs.declared.place.Direction.TheVariants.{Forward, Backward, Either}
+use Rattle.gc_base.specs.declared.place.Direction.TheVariants.{Forward}
 use Rattle.gc_base.specs.declared.place.Sym.{Sym}
 use Rattle.gc_ast.specs.Trees as tree
 use Rattle.gc_ast.specs.Trees.{Tree, Named, RowOf, AnItem, AConstructPart, ANewElement}
-use Rattle.gc_build.proofs.ClaimEnds.{any_member, member_any}
 use Rattle.gc_build_reading.specs.Items.{part_variables}
 use Rattle.gc_build_reading.specs.Places.{chain_places, edge_place, edge_places, element_variable, ends_of, item_places, next_variable, node_place, node_variable, part_places, path_place, places_of}
 use Rattle.gc_build_reading.specs.Variables.{first_places}
 use Rattle.gc_ppg.specs.declared.shape.Kind.{Kind}
 use Rattle.gc_ppg.specs.declared.shape.Kind.TheVariants as kind
-use Rattle.gc_rows.proofs.Members.{cons_cases, contains_here, contains_later}
-use Rattle.gc_rows.specs.Rows.{lists}
-use Rattle.gc_sorts.specs.Constructs.{Making, element_made, item_made, item_stored, made_breaches, part_breaches, part_made, part_stored, second_edge}
+use Rattle.gc_rows.proofs.Members.{cons_cases, contains_here}
+use Rattle.gc_sorts.specs.Constructs.{item_stored, part_stored}
 use Rattle.gc_sorts.specs.Links.{Link, bracket, front_part_name, loose_edge, loose_part, loose_parts, name_if, part_name}
-use Rattle.gc_sorts.specs.Patterns.{each}
-use Rattle.gc_sorts.specs.Uses.{all_of, use_at, use_if}
+use Rattle.gc_sorts.specs.Uses.{all_of}
 use Rattle.gc_sorts.specs.Variables.{Use}
-use Rattle.gc_sorts.specs.declared.sort.Role.{Role}
-use Rattle.gc_sorts.specs.declared.sort.Role.TheVariants as role
 use Rattle.gc_lower.specs.Scopes.{Scope, variable_of, variable_or}
-use Rattle.gc_query.proofs.MatchPlaces.{hidden, unnamed_token}
 use Rattle.gc_query.proofs.SearchedAtoms.{IsUnbroken}
 
 -- the types of places and of ends, which the crate that reads items keeps to itself: those of what its definitions give

@@ -1,12 +1,10 @@
 -- In items that break no rule a variable has one kind, and a new edge one place.
-use Rattle.std.proofs.Common.{◌≡◌, ◌⊎◌, inl, inr, ⊎_elim, ℕ, ◌==◌, ◌&&◌, ◌||◌, Bool, true, false, cond, not, List, [], ◌∷◌, ◌++◌, Option, Some, None, is_some, refl, sym, ap, ◌∙◌, subst, arith}
-use Rattle.std.specs.Prelude.{⊤, nat_eq}
-use Rattle.std.specs.List.{Contains, find, flat_map}
-use Rattle.std.specs.Option.{option_map, option_or, option_to_list}
-use Rattle.std.proofs.lemmas.Bool.{eqb-true}
+use Rattle.std.proofs.Common.{◌≡◌, ⊎_elim, ℕ, Bool, true, false, List, [], ◌++◌, Option, Some, None, refl, sym, ap, ◌∙◌, subst, arith}
+use Rattle.std.specs.List.{Contains}
+use Rattle.std.specs.Option.{option_or}
 use Rattle.std.proofs.lemmas.List.Elements.{Contains-append_left, Contains-append_right, Contains-append_cases}
 use Rattle.std.proofs.lemmas.List.Folds.{find-append}
-use Rattle.std.proofs.lemmas.Option.{none-some, same_Some}
+use Rattle.std.proofs.lemmas.Option.{same_Some}
 use Rattle.gc_ast.specs.Names.{same_name}
 use Rattle.gc_base.specs.declared.place.Sym.{Sym}
 use Rattle.gc_ast.specs.Trees as tree
@@ -14,25 +12,23 @@ use Rattle.gc_ast.specs.Trees.{Tree, Named, RowOf, AnItem, AConstructPart, ANewE
 use Rattle.gc_build_reading.specs.Places.{node_variable, next_variable}
 use Rattle.gc_ppg.specs.declared.shape.Kind.{Kind}
 use Rattle.gc_ppg.specs.declared.shape.Kind.TheVariants as kind
-use Rattle.gc_rows.proofs.Members.{cons_cases, contains_here, to_flat_map}
+use Rattle.gc_rows.proofs.Members.{cons_cases, contains_here}
 use Rattle.gc_sorts.specs.Breaches.{Breaches, both}
-use Rattle.gc_sorts.specs.Constructs.{Making, edge_breaches, element_breaches, given, is_later, item_breaches, item_made, item_stored, made_breaches, part_breaches, part_made, part_stored, second_edge, when_}
-use Rattle.gc_sorts.specs.Expressions.{misfit, name_breaches, name_form, role_form, unknown_if, use_form}
+use Rattle.gc_sorts.specs.Constructs.{Making, given, item_breaches, item_made, item_stored, made_breaches, part_breaches, part_made, part_stored, second_edge}
+use Rattle.gc_sorts.specs.Expressions.{misfit, name_breaches, role_form, unknown_if, use_form}
 use Rattle.gc_sorts.specs.Graphs.{has_name}
 use Rattle.gc_sorts.specs.Patterns.{each}
 use Rattle.gc_sorts.specs.Uses.{all_of, use_at, use_if}
-use Rattle.gc_sorts.specs.Variables.{Use, first_use, has_use}
+use Rattle.gc_sorts.specs.Variables.{Use, first_use}
 use Rattle.gc_sorts.specs.declared.form.Form.{Form}
 use Rattle.gc_sorts.specs.declared.form.Form.TheVariants as form
 use Rattle.gc_sorts.specs.declared.form.Takes.TheVariants as takes
 use Rattle.gc_sorts.specs.declared.sort.Role.{Role}
 use Rattle.gc_sorts.specs.declared.sort.Role.TheVariants as role
-use Rattle.gc_lower.specs.Scopes.{Scope, variable_of, variable_or}
-use Rattle.gc_query.proofs.MakeSites.{Place, IsElement, IsPlaceOf, IsSite, Site, chain_sites, item_sites, is_edge, is_node, of_site, of_stored, part_sites, site_is, site_variable, sites_of}
-use Rattle.gc_query.proofs.MatchParts.{AreApart}
-use Rattle.gc_query.proofs.MatchPlaces.{hidden, unnamed_token}
-use Rattle.gc_query.proofs.MatchSorts.{first_there, has_first}
-use Rattle.gc_query.proofs.SearchedAtoms.{IsUnbroken, not_broken}
+use Rattle.gc_lower.specs.Scopes.{Scope}
+use Rattle.gc_query.proofs.MakeSites.{IsElement, Site, chain_sites, is_edge, is_node, part_sites, sites_of}
+use Rattle.gc_query.proofs.MatchSorts.{has_first}
+use Rattle.gc_query.proofs.SearchedAtoms.{IsUnbroken}
 
 -- what stands in a site, by its kind
 abbrev pub kind_form : Kind → Form

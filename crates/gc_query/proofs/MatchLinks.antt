@@ -1,7 +1,7 @@
 -- A link of a MATCH is an edge pattern of the one part of its block that has the variable, or the first.
-use Rattle.std.proofs.Common.{◌≡◌, ◌⊎◌, inl, inr, ⊎_elim, ℕ, ◌<◌, ◌≤◌, ltb, get_or, Bool, true, false, cond, ◌||◌, List, [], ◌∷◌, ◌++◌, length, map, Option, Some, None, is_some, refl, sym, ap, ◌∙◌, subst, arith}
-use Rattle.std.specs.Prelude.{⊤, nat_le, nat_lt}
-use Rattle.std.specs.List.{AllByRecursion, Contains, find, list_any, position, position_or_len}
+use Rattle.std.proofs.Common.{◌≡◌, ◌⊎◌, inl, inr, ⊎_elim, ℕ, ◌<◌, ◌≤◌, ltb, get_or, Bool, true, false, cond, List, [], ◌∷◌, ◌++◌, length, Option, Some, None, is_some, refl, sym, ap, ◌∙◌, subst, arith}
+use Rattle.std.specs.Prelude.{nat_le, nat_lt}
+use Rattle.std.specs.List.{Contains, position, position_or_len}
 use Rattle.std.specs.Cmp.Lexicographic.{bytes_decides}
 use Rattle.std.proofs.lemmas.Bool.Decides.{nat_tests}
 use Rattle.std.proofs.lemmas.Grind.{common_steps}
@@ -16,27 +16,19 @@ use Rattle.gc_base.specs.declared.place.Sym.{Sym}
 use Rattle.gc_ast.specs.Names.{same_name}
 use Rattle.gc_ast.specs.Trees as tree
 use Rattle.gc_ast.specs.Trees.{Tree, Named, RowOf, ABlock, ALocated, AnOptional, APattern, AnElement, APathBody}
-use Rattle.gc_rows.proofs.Members.{cons_cases, contains_here, contains_later, from_map, of_member, to_map}
-use Rattle.gc_rows.specs.Rows.{lists}
-use Rattle.gc_values.specs.declared.reads.ReadUse.{ReadUse}
-use Rattle.gc_alg.specs.Instances.{variables_of}
-use Rattle.gc_alg.specs.Trees as alg
+use Rattle.gc_rows.proofs.Members.{cons_cases, contains_here, contains_later, from_map, to_map}
 use Rattle.gc_alg.specs.declared.atom.Atom.{Atom}
 use Rattle.gc_alg.specs.declared.atom.AtomWhat.TheVariants as atom
-use Rattle.gc_sorts.specs.Links.{Link, block_links, chain_links, element_name, fits, front_name, link_if, links_in, located_links, name_if, node_name, optional_links, path_name, pattern_links}
-use Rattle.gc_sorts.specs.Matches.{each_use, is_between, shared_breaches, shared_place}
+use Rattle.gc_sorts.specs.Links.{Link, block_links, chain_links, front_name, link_if, located_links, node_name, path_name, pattern_links}
+use Rattle.gc_sorts.specs.Matches.{is_between, shared_place}
 use Rattle.gc_sorts.specs.Orders.{first_place}
-use Rattle.gc_sorts.specs.Uses.{all_of, block_uses, body_uses, located_uses, optional_uses, pattern_uses, property_uses, use_at, use_if}
+use Rattle.gc_sorts.specs.Uses.{all_of, block_uses, body_uses, located_uses, pattern_uses, property_uses, use_at}
 use Rattle.gc_sorts.specs.Variables.{Use, first_use, has_use, sort_of, use_names}
-use Rattle.gc_sorts.specs.declared.sort.Role.{Role}
 use Rattle.gc_sorts.specs.declared.sort.Role.TheVariants as role
 use Rattle.gc_sorts.specs.declared.sort.Sort.TheVariants as sort
-use Rattle.gc_lower.specs.Blocks.{block_atoms, optional_parts, part_of}
+use Rattle.gc_lower.specs.Blocks.{block_atoms}
 use Rattle.gc_lower.specs.Chains.{atoms_of, chain_atoms, link_atoms, next_variable, node_variable, part_atoms}
-use Rattle.gc_lower.specs.Reads.{reads_of}
 use Rattle.gc_lower.specs.Scopes.{Scope, graph_of, variable_of}
-use Rattle.gc_build.specs.Linked.{in_part}
-use Rattle.gc_query.proofs.MatchPlaces.{StandsOn, located_tokens, located_places}
 use Rattle.gc_query.proofs.SearchedAtoms.{IsUnbroken, not_broken}
 
 -- a name that has a place is there

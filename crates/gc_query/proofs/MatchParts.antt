@@ -1,7 +1,6 @@
 -- The part of the block of a MATCH that a link is of: the first one, or the only one that has its variable.
-use Rattle.std.proofs.Common.{◌≡◌, ◌⊎◌, inl, inr, ⊎_elim, ℕ, ◌≤◌, ◌==◌, Bool, true, false, List, [], ◌∷◌, ◌++◌, length, Option, Some, None, refl, sym, ap, ◌∙◌, subst, arith}
-use Rattle.std.specs.Prelude.{⊤}
-use Rattle.std.specs.List.{AllByRecursion, Contains, list_any}
+use Rattle.std.proofs.Common.{◌≡◌, ◌⊎◌, inl, inr, ⊎_elim, ℕ, ◌≤◌, ◌==◌, true, false, List, [], ◌∷◌, ◌++◌, length, Some, refl, sym, ap, subst, arith}
+use Rattle.std.specs.List.{Contains}
 use Rattle.std.proofs.lemmas.Bool.{eqb-true}
 use Rattle.std.proofs.lemmas.List.{append-nil, append_assoc, length-append}
 use Rattle.std.proofs.lemmas.List.Elements.{Contains-append_left, Contains-append_right, Contains-append_cases}
@@ -9,7 +8,7 @@ use Rattle.gc_base.specs.declared.place.Sym.{Sym}
 use Rattle.gc_ast.specs.Trees as tree
 use Rattle.gc_ast.specs.Trees.{Tree, RowOf, ABlock, ALocated, AnOptional}
 use Rattle.gc_build.proofs.ClaimEnds.{any_member}
-use Rattle.gc_build.specs.Linked.{IsFirst, IsOwn, in_part}
+use Rattle.gc_build.specs.Linked.{IsOwn, in_part}
 use Rattle.gc_rows.proofs.Members.{cons_cases, contains_here, contains_later, from_map, of_member}
 use Rattle.gc_rows.specs.Rows.{lists}
 use Rattle.gc_values.specs.declared.reads.ReadUse.{ReadUse}
@@ -26,7 +25,7 @@ use Rattle.gc_lower.specs.Blocks.{block_atoms, block_of, optional_parts, part_of
 use Rattle.gc_lower.specs.Chains.{atoms_of}
 use Rattle.gc_lower.specs.Reads.{reads_of}
 use Rattle.gc_lower.specs.Scopes.{Scope, graph_of, variable_of}
-use Rattle.gc_query.proofs.MatchLinks.{IsEdgePattern, IsLink, IsPathName, block_link, not_used, shared, there_used, use_there}
+use Rattle.gc_query.proofs.MatchLinks.{IsEdgePattern, IsPathName, block_link, not_used, shared, there_used, use_there}
 use Rattle.gc_query.proofs.MatchPlaces.{AtomStands, PlaceOn, StandsOn, atoms_stand, hidden, located_places, located_tokens, named_on, place_on, unnamed_on}
 use Rattle.gc_query.proofs.SearchedAtoms.{IsUnbroken}
 

@@ -1,6 +1,5 @@
 -- The variables of the atoms of a block stand for the names and the unnamed elements at the places of its patterns.
-use Rattle.std.proofs.Common.{◌≡◌, ◌⊎◌, inl, inr, ⊎_elim, ℕ, List, [], ◌∷◌, ◌++◌, map, Option, Some, None, refl, sym, ap, ◌∙◌, subst, arith}
-use Rattle.std.specs.Prelude.{⊤}
+use Rattle.std.proofs.Common.{◌≡◌, ◌⊎◌, inl, inr, ⊎_elim, ℕ, List, [], ◌∷◌, ◌++◌, map, Option, Some, None, refl, sym, subst, arith}
 use Rattle.std.specs.List.{AllByRecursion, Contains}
 use Rattle.std.proofs.lemmas.List.Elements.{Contains-append_left, Contains-append_right}
 use Rattle.std.proofs.lemmas.Option.{none-some, same_Some}
@@ -15,13 +14,11 @@ use Rattle.gc_ppg.specs.declared.shape.Kind.TheVariants as kind
 use Rattle.gc_rows.proofs.Members.{cons_cases, contains_here, contains_later, to_map}
 use Rattle.gc_alg.specs.Instances.{listed, variables_of}
 use Rattle.gc_alg.specs.declared.atom.Atom.{Atom}
-use Rattle.gc_alg.specs.declared.atom.AtomWhat.{AtomWhat}
-use Rattle.gc_alg.specs.declared.atom.AtomWhat.TheVariants as atom
-use Rattle.gc_sorts.specs.Uses.{all_of, body_uses, element_uses, located_uses, pattern_uses, property_uses, use_at, use_if}
+use Rattle.gc_sorts.specs.Uses.{all_of, body_uses, element_uses, pattern_uses, property_uses, use_at, use_if}
 use Rattle.gc_sorts.specs.Variables.{Use}
 use Rattle.gc_sorts.specs.declared.sort.Role.{Role}
 use Rattle.gc_sorts.specs.declared.sort.Role.TheVariants as role
-use Rattle.gc_lower.specs.Chains.{atoms_of, chain_atoms, edge_atoms, element_variable, joined_atoms, link_atoms, next_variable, node_atoms, node_variable, part_atoms, path_atom, path_what, property_atom, property_atoms, variable_if}
+use Rattle.gc_lower.specs.Chains.{atoms_of, chain_atoms, edge_atoms, joined_atoms, link_atoms, next_variable, node_atoms, node_variable, part_atoms, path_atom, property_atoms, variable_if}
 use Rattle.gc_lower.specs.Scopes.{Scope, graph_of, number_at, variable_of, variable_or}
 
 -- the token of an element without a name

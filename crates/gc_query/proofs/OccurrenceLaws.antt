@@ -1,5 +1,5 @@
 -- The unnamed elements of a CONSTRUCT and its MATCH are among the occurrences of its file.
-use Rattle.std.proofs.Common.{◌≡◌, ◌⊎◌, inl, inr, ⊎_elim, ℕ, List, [], ◌∷◌, ◌++◌, Option, Some, None, refl, sym, subst, arith}
+use Rattle.std.proofs.Common.{◌⊎◌, inl, inr, ⊎_elim, ℕ, List, [], ◌++◌, Option, Some, None, sym, subst, arith}
 use Rattle.std.specs.List.{Contains, flat_map}
 use Rattle.std.proofs.lemmas.Grind.{flat_map-append}
 use Rattle.std.proofs.lemmas.List.Elements.{Contains-append_cases}
@@ -8,15 +8,14 @@ use Rattle.gc_ast.specs.Trees.{Tree, Named, RowOf, ABlock, ALocated, AnOptional,
 use Rattle.gc_base.specs.declared.place.Sym.{Sym}
 use Rattle.gc_build_reading.specs.Places.{next_variable, node_variable}
 use Rattle.gc_rows.proofs.Members.{cons_cases}
-use Rattle.gc_sorts.specs.Occurrences as occurrence
-use Rattle.gc_sorts.specs.Occurrences.{Occurrences, each, in_element, in_item, in_located, in_new, in_part, in_pattern, occurrences, unnamed}
+use Rattle.gc_sorts.specs.Occurrences.{each, in_element, in_item, in_located, in_part, in_pattern, occurrences, unnamed}
 use Rattle.gc_sorts.specs.Scopes as scope
 use Rattle.gc_sorts.specs.Scopes.{behind}
 use Rattle.gc_sorts.specs.Uses.{all_of}
 use Rattle.gc_lower.specs.Scopes.{Scope}
 use Rattle.gc_query.proofs.BasicLinks.{optional_tokens, site_token}
 use Rattle.gc_query.proofs.HiddenLaws.{IsUnnamedIn}
-use Rattle.gc_query.proofs.MakeSites.{Site, chain_sites, item_sites, part_sites, sites_of}
+use Rattle.gc_query.proofs.MakeSites.{Site, chain_sites, part_sites, sites_of}
 use Rattle.gc_query.proofs.MatchParts.{block_tokens}
 use Rattle.gc_query.proofs.MatchPlaces.{element_tokens, located_tokens, pattern_tokens, unnamed_token}
 

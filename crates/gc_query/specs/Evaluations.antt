@@ -9,7 +9,7 @@ use Rattle.gc_lower.specs.Scopes.{Scope}
 use Rattle.gc_prod.specs.Segments.{Segments}
 use Rattle.gc_rows.specs.Tables.{Relation}
 use Rattle.gc_spec.specs.PropertyGraph.{PropertyGraph}
-use Rattle.gc_query.specs.Queries.{Combines, Denotes, DenotesTerm, Heads}
+use Rattle.gc_query.specs.Queries.{Combines, DenotesTerm, Heads}
 use Rattle.gc_query.specs.Segments.{HasSegments}
 use Rattle.gc_query.specs.Sessions.{Answer, Answers, behind}
 use Rattle.gc_query.specs.Standings.{Standing, Made}

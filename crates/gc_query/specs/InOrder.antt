@@ -1,10 +1,10 @@
 -- The tokens at which the CONSTRUCTs, the names and the elements of a query file stand, in the order of the text.
-use Rattle.std.specs.Prelude.{◌≡◌, ◌<◌, ◌≤◌, ℕ, ◌+◌, true, List, Option, Some, None}
+use Rattle.std.specs.Prelude.{◌≡◌, ◌<◌, ◌≤◌, ℕ, ◌+◌, true, Option, Some, None}
 use Rattle.std.specs.List.{list_any}
 use Rattle.gc_expr.specs.Views.{Names}
 use Rattle.gc_ast.specs.Names.{same_name}
-use Rattle.gc_ast.specs.Trees.{Tree, Kind, Named, View, Ask, Query, NextTerm, BasicTerm, GraphTerm, QueryTerm, PathHead, GraphHead, Formula, Basic, Block, Optional, Located}
-use Rattle.gc_ast.specs.Trees.{Node, Edge, Path, Element, PropertyUse, Reach, Found, All, Stored, GraphItem, ChainItem, NewNode, NewEdge, Projected, NewStored, NewElement, none, more}
+use Rattle.gc_ast.specs.Trees.{Tree, Kind, Named, View, Ask, Query, NextTerm, BasicTerm, QueryTerm, PathHead, GraphHead, Basic, Block, Optional, Located}
+use Rattle.gc_ast.specs.Trees.{Node, Edge, Path, Element, PropertyUse, Reach, Found, All, Stored, ChainItem, NewNode, NewEdge, NewStored, NewElement, none, more}
 
 -- Take `CONSTRUCT (x) MATCH (x)-[]->()`: the CONSTRUCT stands at the token 0, the elements at 1, 5, 8 and 13, and the names at 2 and 6; the
 -- unnamed edge has the token 8 and the unnamed node the token 13. In `PATH v = (x)-[]->(y)` the name v of the view stands at the token 1.

@@ -1,11 +1,8 @@
 use Rattle.std.proofs.Common.{◌≡◌, ◌++◌, ◌∙◌, append-nil, map, refl, rules, subst, sym, ap}
-use Rattle.std.specs.Option.{option_copied}
-use Rattle.gc_alg.specs.Views.{block_tree}
 use Rattle.gc_ast.specs.declared.construct.Change.{the_lemmas}
-use Rattle.gc_ast.specs.PatternViews.{named, named_by}
+use Rattle.gc_ast.specs.PatternViews.{named_by}
 use Rattle.gc_ast.specs.QueryViews.{head_by, head_tree, query_by, query_tree}
 use Rattle.gc_ast.specs.Trees as tree
-use Rattle.gc_catalog.specs.NamedGraphs.{name_at}
 use Rattle.gc_explain_query.specs.QueryLines.{view_of}
 use Rattle.gc_expr.specs.Views.{Names, name_of}
 use Rattle.gc_lower.specs.Namings.{scope_in}
@@ -13,7 +10,7 @@ use Rattle.gc_lower.specs.Scopes.{Scope}
 use Rattle.gc_query.specs.Answered.{names_in}
 use Rattle.gc_query.specs.Answered as answered
 use Rattle.gc_query.specs.Built.{IsHeadNumbered}
-use Rattle.gc_query.specs.Logs.{explained_head, named_view, word_if}
+use Rattle.gc_query.specs.Logs.{explained_head, named_view}
 use Rattle.gc_query.proofs.EvaluationLaws.{if_told}
 use Rattle.gc_query.proofs.QueryParts.{path_head}
 use Rattle.gc_query.proofs.explaining.push_view.Goals as goal

@@ -1,4 +1,3 @@
-use Rattle.std.proofs.Common.{sym}
 use Rattle.gc_alg.specs.Views.{block_tree}
 use Rattle.gc_query.proofs.FoundSearched.{patterns_searched}
 use Rattle.gc_query.proofs.explaining.tell.Goals as goal

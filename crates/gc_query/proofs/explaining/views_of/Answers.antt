@@ -1,4 +1,4 @@
-use Rattle.std.proofs.Common.{◌≡◌, Some, length, map, slice_get, refl, sym, ap, ◌∙◌, arith}
+use Rattle.std.proofs.Common.{◌≡◌, Some, length, map, slice_get, sym, ap, ◌∙◌, arith}
 use Rattle.gc_ast.specs.declared.file.File.{File}
 use Rattle.gc_ast.specs.QueryViews.{head_tree}
 use Rattle.gc_explain_query.specs.QueryLines.{view_of}

@@ -6,8 +6,8 @@ use Rattle.gc_sets.specs.Origins.{ComesFrom}
 use Rattle.gc_spec.specs.PropertyGraph.{PropertyGraph}
 use Rattle.gc_query.specs.Answered.{IsLonger, names_in, scope_in, standing_at}
 use Rattle.gc_query.specs.Built.{IsBuilt}
-use Rattle.gc_query.specs.Evaluations.{Evaluation, EvaluatesHeads, EvaluatesLater, InTurn, names_under_all}
-use Rattle.gc_query.specs.Logs.{IsGained, Log}
+use Rattle.gc_query.specs.Evaluations.{Evaluation, EvaluatesHeads, EvaluatesLater, names_under_all}
+use Rattle.gc_query.specs.Logs.{IsGained}
 use Rattle.gc_query.specs.Queries.{Heads, Joined}
 use Rattle.gc_query.specs.Standings.{Standing, Made}
 use Rattle.gc_query.specs.declared.fault.Fault.{Fault}
