@@ -1,12 +1,15 @@
 pub mod AlgebraLaws
+pub mod ArrayLaws
 pub mod AscendingLists
+pub mod ChunkLaws
 pub mod JoinLaws
 pub mod KeyLaws
 pub mod LinkLaws
 pub mod Lookup
 pub mod Members
+pub mod OrderLaws
 pub mod RowLaws
 pub mod SameTable
 pub mod SortLaws
-pub mod TableLaws
+pub mod UniteLaws
 pub mod UnionLaws

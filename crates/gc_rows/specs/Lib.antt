@@ -1,7 +1,9 @@
 pub mod Algebra
+pub mod Arrays
 pub mod Data
 pub mod DataLaws
 pub mod Keys
 pub mod Links
 pub mod Rows
 pub mod Tables
+pub mod Views

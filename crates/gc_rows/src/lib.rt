@@ -3,6 +3,8 @@
 //! This crate knows of no graph, no pattern and no expression.
 #![tactic(auto)]
 
+mod array_row;
+mod cells;
 mod datum;
 mod joins;
 mod keys;
@@ -11,11 +13,14 @@ mod pair;
 mod partners;
 mod projection;
 mod row;
+mod row_array;
 mod semijoins;
+mod sorting;
 mod table;
 #[cfg(test)]
 mod tests;
 mod variables;
+mod view;
 
 pub use datum::Datum;
 pub use joins::{join, outer};
@@ -26,7 +31,9 @@ pub use laws::{
     semijoin_and_antijoin_split_a_table,
 };
 pub use projection::project;
-pub use row::{Binding, Row, RowList, SymList, row_cmp};
+pub use row::{Binding, Row, RowList, SymList};
+pub use row_array::RowArray;
 pub use semijoins::{antijoin, semijoin};
 pub use table::Table;
 pub use variables::{each_once, is_listed};
+pub use view::RowView;

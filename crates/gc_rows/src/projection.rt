@@ -1,26 +1,30 @@
-ghost use Rattle.std.specs.Prelude.{◌≡◌, IfOk};
+ghost use Rattle.std.specs.Prelude.{◌≡◌, ◌++◌, true, IfOk, OnOk};
 ghost use Rattle.gc_rows.specs.Algebra.{projected};
+ghost use Rattle.gc_rows.specs.Arrays.{is_distinct};
 ghost use Rattle.gc_rows.specs.Tables.{IsTableOf};
 
-use crate::row::{Row, SymList};
+use crate::row::SymList;
+use crate::row_array::RowArray;
 use crate::table::Table;
-use gc_base::{Duplicate, Memory, Sequence, Sym};
+use gc_base::{Duplicate, Memory};
 use std::alloc::Global;
 
-/// The rows of `a` restricted to the variables `keep`, over these variables.
+/// The rows of `a` restricted to the variables `keep`, each listed once, over these variables.
 pub fn project(alloc: Global, a: &Table, keep: &SymList) -> Result<Table, Memory>
+    requires { is_distinct keep.now ≡ true }
     ensures { IfOk result (IsTableOf keep.now (projected keep.now a.now.rows)) }
 {
-    let rows = restrict_all(alloc, a.rows().as_slice(), keep.as_slice())?;
-    Table::of(keep.copy()?, Sequence::from_vec(rows))
+    let mut kept = RowArray::new(alloc, keep.copy()?);
+    push_restricted(&mut kept, a.rows())?;
+    Table::of(kept)
 }
 
-fn restrict_all(alloc: Global, rows: &[Row], keep: &[Sym]) -> Result<Vec<Row>, Memory>
-    ensures { IfOk result (λ left. left.items ≡ projected keep.now rows.now) }
+// Adds the rows of another array, each restricted to the schema.
+fn push_restricted(out: &mut RowArray, rows: &RowArray) -> Result<(), Memory>
+    ensures { OnOk result (out.new ≡ record { schema = out.old.schema; rows = out.old.rows ++ projected out.old.schema rows.now.rows }) }
 {
-    let mut left = Vec::with_capacity(alloc, rows.len())?;
-    for row in rows {
-        left.push(row.restricted(keep)?)?;
+    for i in 0..rows.len() {
+        out.push(&rows.row(i))?;
     }
-    Ok(left)
+    Ok(())
 }

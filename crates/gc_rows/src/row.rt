@@ -1,17 +1,15 @@
 ghost use Rattle.std.specs.Prelude.{◌≡◌, [], IfOk, OnOk, OnErr};
-ghost use Rattle.std.specs.Option.{option_copied, option_cmp};
+ghost use Rattle.std.specs.Option.{option_copied};
 ghost use Rattle.std.specs.Ordering.{nat_cmp};
 ghost use Rattle.gc_base.specs.Places.{IsPlaceOrGap};
-ghost use Rattle.gc_rows.specs.Data.{datum_order};
 ghost use Rattle.gc_rows.specs.declared.row.Binding.{Binding};
-ghost use Rattle.gc_rows.specs.Rows.{datum_at, bind, row_order, IsRow, IsOver};
+ghost use Rattle.gc_rows.specs.Rows.{datum_at, bind, IsRow, IsOver};
 ghost use Rattle.gc_rows.specs.Algebra.{restricted};
 
 use crate::datum::Datum;
 use crate::variables::is_listed;
 use gc_base::{Duplicate, Memory, Sequence, Sym};
 use std::alloc::Global;
-use std::cmp::Ordering;
 use std::marker::Model;
 use std::mem::{drop, replace};
 
@@ -145,30 +143,5 @@ impl Duplicate for Binding {
 impl Duplicate for Row {
     fn copy(&self) -> Result<Row, Memory> {
         self.copy_with_room(0)
-    }
-}
-
-/// The order of rows: variable by variable in the order of the schema, unbound first.
-pub fn row_cmp(schema: &[Sym], a: &Row, b: &Row) -> Ordering
-    ensures { result ≡ row_order schema.now a.now b.now }
-{
-    for var in schema {
-        let order = cell_cmp(a.get(*var), b.get(*var));
-        if !order.is_eq() {
-            return order;
-        }
-    }
-    Ordering::Equal
-}
-
-// What a variable stands for in two rows.
-fn cell_cmp(a: Option<&Datum>, b: Option<&Datum>) -> Ordering
-    ensures { result ≡ option_cmp datum_order (option_copied a.entry) (option_copied b.entry) }
-{
-    match (a, b) {
-        (None, None) => Ordering::Equal,
-        (None, Some(_)) => Ordering::Less,
-        (Some(_), None) => Ordering::Greater,
-        (Some(a), Some(b)) => a.cmp(b),
     }
 }

@@ -1,18 +1,17 @@
-ghost use Rattle.std.specs.Prelude.{◌≡◌, IfOk};
-ghost use Rattle.std.specs.List.{AllByRecursion};
-ghost use Rattle.gc_rows.specs.Rows.{IsRow, IsOver};
-ghost use Rattle.gc_rows.specs.Tables.{IsRowOver, AreRowsOver, HasExactly, IsTableOf};
+ghost use Rattle.std.specs.Prelude.{◌≡◌, ◌<◌, Some, length, slice_get, IfOk};
+ghost use Rattle.gc_rows.specs.Tables.{AreRowsOver, IsTableOf};
 
-use crate::row::{Row, RowList, SymList, row_cmp};
-use gc_base::{Duplicate, Memory, Sequence, Sym};
+use crate::row::SymList;
+use crate::row_array::RowArray;
+use crate::view::RowView;
+use gc_base::Memory;
 use std::marker::Model;
 
 /// A table of bindings. Contracts see its schema, which is a list of variables, and its rows, which
-/// are over the schema and ascend by its order, each once.
+/// are over the schema and ascend by its order, each once. They lie in one array.
 #[derive(Debug, Drop)]
 pub struct Table {
-    schema: SymList,
-    rows: RowList,
+    rows: RowArray,
 }
 
 impl Model for Table {
@@ -20,74 +19,71 @@ impl Model for Table {
 
     ghost Value = { Relation };
 
-    ghost view = { λ t. record { schema = t.schema; rows = t.rows } };
+    ghost view = { λ t. t.rows };
 
-    ghost invariant = { λ t. AreRowsOver t.schema t.rows };
+    ghost invariant = { λ t. AreRowsOver t.rows.schema t.rows.rows };
 }
 
 impl Table {
-    /// The table of these rows, which it sorts; of equal rows it keeps one.
-    pub fn of(schema: SymList, rows: RowList) -> Result<Table, Memory>
-        requires { AllByRecursion (IsOver schema) rows }
-        ensures { IfOk result (IsTableOf schema rows) }
+    /// The table of these rows, which it sorts unless they ascend; of equal rows it keeps one.
+    pub fn of(rows: RowArray) -> Result<Table, Memory>
+        ensures { IfOk result (IsTableOf rows.schema rows.rows) }
     {
-        know(rows.as_slice());
-        let rows = sort(schema.as_slice(), rows.into_vec())?;
-        Ok(Table {
-            schema,
-            rows: Sequence::from_vec(rows),
-        })
+        if rows.is_ascending() {
+            Ok(Table { rows })
+        } else {
+            Ok(Table {
+                rows: rows.sorted()?,
+            })
+        }
     }
 
     /// The table of rows that ascend already.
-    pub fn ascending(schema: SymList, rows: RowList) -> Table
-        requires { AreRowsOver schema rows }
-        ensures { result ≡ record { schema = schema; rows = rows } }
+    pub fn ascending(rows: RowArray) -> Table
+        requires { AreRowsOver rows.schema rows.rows }
+        ensures { result ≡ rows }
     {
-        Table { schema, rows }
+        Table { rows }
     }
 
     /// Its variables, in order.
     pub fn schema(&self) -> &SymList
         ensures { result.now ≡ self.now.schema }
     {
-        &self.schema
+        self.rows.schema()
+    }
+
+    /// How many rows it has.
+    pub fn len(&self) -> usize
+        ensures { result ≡ length self.now.rows }
+    {
+        self.rows.len()
+    }
+
+    /// The row of a number, from 0 on, where it lies.
+    pub fn row(&self, number: usize) -> RowView<'_>
+        requires { number < length self.now.rows }
+        ensures { slice_get self.now.rows number ≡ Some result }
+    {
+        self.rows.row(number)
+    }
+
+    /// The same, or `None` exactly where there is no row of this number.
+    pub fn get(&self, number: usize) -> Option<RowView<'_>>
+        ensures { result ≡ slice_get self.now.rows number }
+    {
+        if number < self.rows.len() {
+            Some(self.rows.row(number))
+        } else {
+            None
+        }
     }
 
     /// Its rows; they ascend, and each is over the schema.
-    pub fn rows(&self) -> &RowList
-        ensures rows { result.now ≡ self.now.rows }
+    pub fn rows(&self) -> &RowArray
+        ensures rows { result.now ≡ self.now }
         ensures valid { AreRowsOver self.now.schema self.now.rows }
     {
         &self.rows
     }
-}
-
-impl Duplicate for Table {
-    fn copy(&self) -> Result<Table, Memory> {
-        Ok(Table {
-            schema: self.schema.copy()?,
-            rows: self.rows.copy()?,
-        })
-    }
-}
-
-// Rows ascend by variable, by their type.
-fn know(rows: &[Row])
-    ensures { AllByRecursion IsRow rows.now }
-{
-    for row in rows {
-        let _bindings = row.bindings();
-    }
-}
-
-// The rows in the order of the schema, each once.
-fn sort(schema: &[Sym], mut rows: Vec<Row>) -> Result<Vec<Row>, Memory>
-    requires { AllByRecursion (IsRowOver schema.now) rows.items }
-    ensures ascend { IfOk result (λ sorted. AreRowsOver schema.now sorted.items) }
-    ensures exact { IfOk result (λ sorted. HasExactly rows.items sorted.items) }
-{
-    rows.sort_by(|a, b| row_cmp(schema, a, b))?;
-    rows.dedup_by(|a, b| row_cmp(schema, a, b).is_eq());
-    Ok(rows)
 }

@@ -1,5 +1,7 @@
 // The operations with ample memory, on tables whose results were worked out by hand.
-use crate::{Datum, Row, RowList, SymList, Table, antijoin, join, outer, project, semijoin};
+use crate::{
+    Datum, Row, RowArray, RowView, SymList, Table, antijoin, join, outer, project, semijoin,
+};
 use gc_base::{Id, Sym};
 use std::alloc::Global;
 use std::test::Fail;
@@ -22,11 +24,11 @@ fn put(row: &mut Row, var: u32, node: Option<u64>) -> Result<(), Fail> {
 // The table of such rows.
 fn table(alloc: Global, rows: &[(Option<u64>, Option<u64>)]) -> Result<Table, Fail> {
     let schema = [Sym(0), Sym(1)];
-    let mut list = RowList::new(alloc);
+    let mut list = RowArray::new(alloc, SymList::from_vec(schema.to_vec(alloc)?));
     for (first, second) in rows {
-        list.push(row(alloc, *first, *second)?.restricted(&schema)?)?;
+        list.push(&RowView::of(&row(alloc, *first, *second)?))?;
     }
-    Ok(Table::of(SymList::from_vec(schema.to_vec(alloc)?), list)?)
+    Ok(Table::of(list)?)
 }
 
 // Two rows without the second variable, one of them twice.
@@ -39,7 +41,7 @@ fn whole(alloc: Global) -> Result<Table, Fail> {
     table(alloc, &[(Some(1), Some(3))])
 }
 
-fn node_at(row: &Row, var: u32) -> Option<u64> {
+fn node_at(row: &RowView<'_>, var: u32) -> Option<u64> {
     match row.get(Sym(var)) {
         Some(Datum::Node(node)) => Some(node.get()),
         _ => None,
@@ -48,11 +50,12 @@ fn node_at(row: &Row, var: u32) -> Option<u64> {
 
 // Whether a table has these rows, in this order.
 fn has_rows(table: &Table, rows: &[(Option<u64>, Option<u64>)]) -> bool {
-    if table.rows().len() != rows.len() {
+    if table.len() != rows.len() {
         return false;
     }
-    for (row, (first, second)) in table.rows().as_slice().iter().zip(rows) {
-        if node_at(row, 0) != *first || node_at(row, 1) != *second {
+    for (number, (first, second)) in rows.iter().enumerate() {
+        let row = table.row(number);
+        if node_at(&row, 0) != *first || node_at(&row, 1) != *second {
             return false;
         }
     }

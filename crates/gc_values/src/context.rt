@@ -6,7 +6,7 @@ use crate::graphs::{own_graph, walk_graph};
 use crate::reads::{Made, MadeList, Reads};
 use gc_base::Sym;
 use gc_ppg::{Graph, GraphList};
-use gc_rows::{Datum, Row};
+use gc_rows::{Datum, RowView};
 use std::alloc::Global;
 use std::marker::Model;
 
@@ -15,7 +15,7 @@ use std::marker::Model;
 #[derive(Drop)]
 pub(crate) struct Context<'a> {
     pub alloc: Global,
-    pub row: &'a Row,
+    pub row: &'a RowView<'a>,
     pub reads: &'a Reads,
     pub graphs: &'a GraphList,
     pub made: &'a MadeList,

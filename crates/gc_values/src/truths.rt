@@ -19,7 +19,7 @@ use crate::values::value_of;
 use gc_base::{Memory, Steps};
 use gc_expr::{Expr, ExprList, ExprNode};
 use gc_ppg::GraphList;
-use gc_rows::Row;
+use gc_rows::RowView;
 use std::alloc::Global;
 use std::sync::ledger::Ledger;
 
@@ -28,7 +28,7 @@ use std::sync::ledger::Ledger;
 pub fn truth<L: Ledger>(
     alloc: Global,
     expr: &Expr,
-    row: &Row,
+    row: &RowView<'_>,
     reads: &Reads,
     graphs: &GraphList,
     made: &MadeList,

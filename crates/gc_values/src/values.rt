@@ -18,7 +18,7 @@ use crate::val::{Val, ValList, Why, single};
 use gc_base::{Duplicate, Literal, Memory, Steps, ValueSet};
 use gc_expr::{Expr, ExprNode, ProductPartList, SumPartList};
 use gc_ppg::GraphList;
-use gc_rows::{Datum, Row};
+use gc_rows::{Datum, RowView};
 use std::alloc::Global;
 use std::sync::ledger::Ledger;
 
@@ -27,7 +27,7 @@ use std::sync::ledger::Ledger;
 pub fn value<L: Ledger>(
     alloc: Global,
     expr: &Expr,
-    row: &Row,
+    row: &RowView<'_>,
     reads: &Reads,
     graphs: &GraphList,
     made: &MadeList,
