@@ -8,6 +8,7 @@ pub mod LinkLaws
 pub mod Lookup
 pub mod Members
 pub mod OrderLaws
+pub mod RestrictLaws
 pub mod RowLaws
 pub mod SameTable
 pub mod SortLaws

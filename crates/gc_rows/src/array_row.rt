@@ -1,11 +1,13 @@
-ghost use Rattle.std.specs.Prelude.{◌≡◌, length};
+ghost use Rattle.std.specs.Prelude.{◌≡◌, length, IfOk, OnOk};
 ghost use Rattle.std.specs.Option.{option_copied};
-ghost use Rattle.gc_rows.specs.Arrays.{cell_at};
+ghost use Rattle.gc_rows.specs.Arrays.{cell_at, row_of, with_cell};
 ghost use Rattle.gc_rows.specs.Rows.{datum_at};
 ghost use Rattle.gc_rows.specs.Tables.{IsRowOver};
 
 use crate::datum::Datum;
-use gc_base::Sym;
+use crate::row::Row;
+use gc_base::{Duplicate, Memory, Sym};
+use std::alloc::Global;
 use std::marker::Model;
 
 /// A row of an array, where it lies. Contracts see its schema and the list of its bindings.
@@ -35,12 +37,44 @@ impl<'a> ArrayRow<'a> {
         cell_of(self.schema, self.cells, var)
     }
 
+    /// The row by itself.
+    pub(crate) fn to_row(&self, alloc: Global) -> Result<Row, Memory>
+        ensures { IfOk result (λ row. row ≡ self.now.row) }
+    {
+        row_of(alloc, self.schema, self.cells)
+    }
+
     /// The variables of its schema.
     pub(crate) fn schema(&self) -> &'a [Sym]
         ensures schema { result.now ≡ self.now.schema }
         ensures valid { IsRowOver self.now.schema self.now.row }
     {
         self.schema
+    }
+}
+
+// The row that cells make, from the last on.
+fn row_of(alloc: Global, schema: &[Sym], cells: &[Option<Datum>]) -> Result<Row, Memory>
+    requires { length cells.now ≡ length schema.now }
+    ensures { IfOk result (λ row. row ≡ row_of schema.now cells.now) }
+{
+    let mut row = Row::with_room(alloc, schema.len())?;
+    let mut at = schema.len();
+    while at > 0 {
+        at -= 1;
+        let var = schema[at];
+        bind_cell(&mut row, var, cells[at].as_ref())?;
+    }
+    Ok(row)
+}
+
+// Binds a variable, where its cell is not empty.
+fn bind_cell(row: &mut Row, var: Sym, cell: Option<&Datum>) -> Result<(), Memory>
+    ensures { OnOk result (row.new ≡ with_cell row.old var (option_copied cell.entry)) }
+{
+    match cell {
+        None => Ok(()),
+        Some(datum) => row.put(var, datum.copy()?),
     }
 }
 

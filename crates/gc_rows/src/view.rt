@@ -1,11 +1,12 @@
-ghost use Rattle.std.specs.Prelude.{◌≡◌};
+ghost use Rattle.std.specs.Prelude.{◌≡◌, IfOk};
 ghost use Rattle.std.specs.Option.{option_copied};
 ghost use Rattle.gc_rows.specs.Rows.{IsRow, datum_at};
 
 use crate::array_row::ArrayRow;
 use crate::datum::Datum;
 use crate::row::Row;
-use gc_base::Sym;
+use gc_base::{Duplicate, Memory, Sym};
+use std::alloc::Global;
 use std::marker::Model;
 
 // Where a row lies: by itself, or among others in an array.
@@ -58,6 +59,16 @@ impl<'a> RowView<'a> {
         match &self.place {
             RowPlace::Alone(row) => row.get(var),
             RowPlace::InArray(row) => row.get(var),
+        }
+    }
+
+    /// A copy of the row, by itself.
+    pub fn to_row(&self, alloc: Global) -> Result<Row, Memory>
+        ensures { IfOk result (λ row. row ≡ self.now) }
+    {
+        match &self.place {
+            RowPlace::Alone(row) => row.copy(),
+            RowPlace::InArray(row) => row.to_row(alloc),
         }
     }
 

@@ -1,4 +1,4 @@
-use Rattle.std.proofs.Common.{◌≡◌, ◌<◌, length, ◌∙◌, arith}
+use Rattle.std.proofs.Common.{◌<◌, length, ◌∙◌, arith}
 use Rattle.gc_rows.proofs.ArrayLaws.{cell_step}
 use Rattle.gc_rows.proofs.array_row.cell_of.Goals as goal
 

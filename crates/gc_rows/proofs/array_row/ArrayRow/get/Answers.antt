@@ -1,4 +1,4 @@
-use Rattle.std.proofs.Common.{◌≡◌, sym, ap, ◌∙◌}
+use Rattle.std.proofs.Common.{sym, ap, ◌∙◌}
 use Rattle.gc_rows.specs.Rows.{datum_at}
 use Rattle.gc_rows.proofs.ArrayLaws.{datum_cell}
 use Rattle.gc_rows.proofs.array_row.ArrayRow.get.Goals as goal
