@@ -1,3 +1,4 @@
 pub mod CollectLaws
 pub mod Gathering
 pub mod KeyOrder
+pub mod RankLaws

@@ -1,3 +1,4 @@
 pub mod Folds
 pub mod Gathered
 pub mod Groups
+pub mod Ranks

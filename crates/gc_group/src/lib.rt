@@ -10,6 +10,7 @@ mod held;
 mod key;
 mod key_parts;
 mod listed;
+mod ranks;
 
 pub use folds::fold;
 pub use grouping::{Group, RowNumbers, groups};

@@ -1,0 +1,13 @@
+use Rattle.std.proofs.Common.{◌≡◌, ◌∙◌}
+use Rattle.std.specs.Ordering.{nat_cmp, ordering_then}
+use Rattle.gc_group.specs.Groups.{key_order}
+use Rattle.gc_group.proofs.RankLaws.{ranks_first}
+use Rattle.gc_group.proofs.held.held_cmp.Goals as goal
+
+pub returns : goal.returns
+returns c =
+    let a = c.a.inside in
+    let b = c.b.inside in
+    c.ranked_cmp.ensures
+    ∙ ((λ i. ordering_then (nat_cmp (a.invariant.first i) (b.invariant.first i)) (ordering_then (nat_cmp (a.invariant.second i) (b.invariant.second i)) (key_order a.key.now b.key.now)))
+    ∙ ranks_first a.key.now.parts b.key.now.parts)
