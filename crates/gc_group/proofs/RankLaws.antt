@@ -1,5 +1,5 @@
 -- Comparing the numbers of keys first changes no order.
-use Rattle.std.proofs.Common.{◌≡◌, ℕ, ◌+◌, ◌^◌, ◌<◌, min, nat_lt, Bool, true, false, cond, List, [], ◌∷◌, Option, None, Some, refl, sym, ap, ◌∙◌, subst, arith}
+use Rattle.std.proofs.Common.{◌≡◌, ℕ, ◌^◌, ◌<◌, nat_lt, Bool, true, false, cond, List, [], ◌∷◌, Option, None, Some, refl, sym, ap, ◌∙◌, subst, arith}
 use Rattle.std.specs.declared.cmp.Ordering.{Ordering}
 use Rattle.std.specs.declared.cmp.Ordering.TheVariants.{Less, Equal, Greater}
 use Rattle.std.specs.Ordering.{nat_cmp, ordering_then, ordering_reverse}
@@ -118,8 +118,8 @@ first_less [] (d ∷ ds) h = refl
 first_less (c ∷ cs) [] h = absurd (omega arith)
 first_less (c ∷ cs) (d ∷ ds) h = ap (λ o. ordering_then o (parts_order cs ds)) (parts_less c d h)
 
-same_first : (c : Option Datum) (as bs : List (Option Datum)) → parts_order (c ∷ as) (c ∷ bs) ≡ parts_order as bs
-same_first c as bs = ap (λ o. ordering_then o (parts_order as bs)) (tied_itself (options_total datum_order_total) c)
+same_first : (c : Option Datum) (cs ds : List (Option Datum)) → parts_order (c ∷ cs) (c ∷ ds) ≡ parts_order cs ds
+same_first c cs ds = ap (λ o. ordering_then o (parts_order cs ds)) (tied_itself (options_total datum_order_total) c)
 
 second_less : (a b : List (Option Datum)) → first_rank a ≡ first_rank b → second_rank a < second_rank b → parts_order a b ≡ Less
 second_less a [] e h = absurd (omega arith)

@@ -1,5 +1,5 @@
 -- Numbers that ascend with keys, which are compared before the keys are.
-use Rattle.std.specs.Prelude.{◌≡◌, ℕ, ◌+◌, ◌^◌, min, Bool, true, false, nat_lt, cond, List, [], ◌∷◌, Option, None, Some}
+use Rattle.std.specs.Prelude.{◌≡◌, ℕ, ◌+◌, ◌^◌, min, Bool, false, nat_lt, cond, List, [], ◌∷◌, Option, None, Some}
 use Rattle.gc_group.specs.declared.ranks.Ranks.{Ranks}
 use Rattle.gc_rows.specs.declared.datum.Datum.{Datum}
 use Rattle.gc_rows.specs.declared.datum.Datum.TheVariants.{Node, Edge, Stored}

@@ -45,13 +45,7 @@ fn second_rank(parts: &[Option<Datum>]) -> u64
     ensures { result ≡ second_rank parts.now }
 {
     match parts {
-        [part, next, ..] => {
-            if is_told(part) {
-                part_rank(next)
-            } else {
-                0
-            }
-        }
+        [part, next, ..] => { if is_told(part) { part_rank(next) } else { 0 } }
         _ => 0,
     }
 }
