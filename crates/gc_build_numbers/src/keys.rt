@@ -16,7 +16,7 @@ use gc_base::{Duplicate, Id, Memory, Steps, Sym};
 use gc_build_recipe::{Grouping, Variable};
 use gc_group::{Key, KeyParts};
 use gc_ppg::Kind;
-use gc_rows::{Datum, Row};
+use gc_rows::{Datum, RowView};
 use std::alloc::Global;
 use std::sync::ledger::Ledger;
 
@@ -31,16 +31,17 @@ pub(crate) fn keys<L: Ledger>(
 {
     let readers = readers(setting.alloc, &variable.grouping)?;
     let ends = ends_of(before, &variable.grouping);
-    let rows = setting.table.rows().as_slice();
-    let mut keys = Vec::with_capacity(setting.alloc, rows.len())?;
-    for (place, row) in rows.iter().enumerate() {
-        let place = Placed {
+    let table = setting.table;
+    let mut keys = Vec::with_capacity(setting.alloc, table.len())?;
+    for place in 0..table.len() {
+        let row = table.row(place);
+        let placed = Placed {
             setting,
             ends,
             place,
-            row,
+            row: &row,
         };
-        keys.push(place.key(before, variable, &readers, steps)?)?;
+        keys.push(placed.key(before, variable, &readers, steps)?)?;
     }
     Ok(keys)
 }
@@ -86,7 +87,7 @@ struct Placed<'a> {
     setting: &'a Setting<'a>,
     ends: Ends<'a>,
     place: usize,
-    row: &'a Row,
+    row: &'a RowView<'a>,
 }
 
 impl Placed<'_> {
@@ -219,7 +220,7 @@ fn single_key(alloc: Global, datum: &Datum) -> Result<Option<Key>, Memory>
 }
 
 /// The key that is a whole row.
-pub(crate) fn row_key(alloc: Global, schema: &[Sym], row: &Row) -> Result<Key, Memory>
+pub(crate) fn row_key(alloc: Global, schema: &[Sym], row: &RowView<'_>) -> Result<Key, Memory>
     ensures { IfOk result (λ key. key ≡ row_key schema.now row.now) }
 {
     Ok(Key {
@@ -228,7 +229,7 @@ pub(crate) fn row_key(alloc: Global, schema: &[Sym], row: &Row) -> Result<Key, M
 }
 
 // What the variables of a schema stand for in a row.
-fn cells(alloc: Global, schema: &[Sym], row: &Row) -> Result<KeyParts, Memory>
+fn cells(alloc: Global, schema: &[Sym], row: &RowView<'_>) -> Result<KeyParts, Memory>
     ensures { IfOk result (λ parts. parts ≡ cells schema.now row.now) }
 {
     let mut parts = KeyParts::with_room(alloc, schema.len())?;

@@ -11,7 +11,7 @@ use crate::setting::Setting;
 use gc_base::{Duplicate, Memory, Name, Steps, Sym, ValueSet};
 use gc_build_recipe::{Grouping, Term};
 use gc_expr::{Expr, ExprNode};
-use gc_rows::{Datum, Row};
+use gc_rows::{Datum, RowView};
 use gc_values::{MadeList, Val, ValList, value};
 use std::alloc::Global;
 use std::marker::Model;
@@ -51,7 +51,7 @@ impl<'a> Reader<'a> {
     pub(crate) fn part<L: Ledger>(
         &self,
         setting: &Setting<'_>,
-        row: &Row,
+        row: &RowView<'_>,
         steps: &mut Steps<L>,
     ) -> Result<Option<Datum>, Memory>
         ensures { IfOk result (λ part. part ≡ term_part (on_row setting.now row.now) self.now) }
@@ -111,7 +111,7 @@ fn property_of(alloc: Global, var: Sym, name: Name) -> Result<Expr, Memory>
 fn literals<L: Ledger>(
     setting: &Setting<'_>,
     expr: &Expr,
-    row: &Row,
+    row: &RowView<'_>,
     steps: &mut Steps<L>,
 ) -> Result<ValueSet, Memory>
     ensures { IfOk result (λ set. set ≡ literals_of (value_of (on_row setting.now row.now) [] (numbered_expr expr.now))) }

@@ -7,7 +7,7 @@ use crate::numbered::{Element, ElementList, Numbered, Numbering, RowElements};
 use crate::setting::Setting;
 use gc_base::{Memory, Sym};
 use gc_group::{Group, RowNumbers};
-use gc_rows::Row;
+use gc_rows::{RowArray, RowView};
 use std::alloc::Global;
 
 /// Numbers a variable with an element for each row. The rows of a table ascend, so that each is a group by
@@ -35,11 +35,11 @@ pub(crate) fn add_rows(
 }
 
 // The rows of the table, which ascend.
-fn rows_of<'a>(setting: &'a Setting<'_>) -> &'a [Row]
-    ensures rows { result.now ≡ setting.now.rows }
+fn rows_of<'a>(setting: &'a Setting<'_>) -> &'a RowArray
+    ensures rows { result.now.rows ≡ setting.now.rows }
     ensures valid { AreRowsOver setting.now.schema setting.now.rows }
 {
-    setting.table.rows().as_slice()
+    setting.table.rows()
 }
 
 // An element for each row, which are numbered from this number on.
@@ -47,14 +47,14 @@ fn row_elements(
     alloc: Global,
     schema: &[Sym],
     next: u64,
-    rows: &[Row],
+    rows: &RowArray,
 ) -> Result<Vec<Element>, Memory>
-    ensures { IfOk result (λ elements. elements.items ≡ row_elements schema.now next 0 rows.now) }
+    ensures { IfOk result (λ elements. elements.items ≡ row_elements schema.now next 0 rows.now.rows) }
 {
     let mut elements = Vec::with_capacity(alloc, rows.len())?;
     let mut number = next;
     for place in 0..rows.len() {
-        elements.push(element_of(alloc, schema, number, place, &rows[place])?)?;
+        elements.push(element_of(alloc, schema, number, place, &rows.row(place))?)?;
         number = number.checked_add(1).ok_or(Memory)?;
     }
     Ok(elements)
@@ -66,7 +66,7 @@ fn element_of(
     schema: &[Sym],
     number: u64,
     place: usize,
-    row: &Row,
+    row: &RowView<'_>,
 ) -> Result<Element, Memory>
     ensures { IfOk result (λ e. e ≡ element_alone number place (row_key schema.now row.now)) }
 {
@@ -80,11 +80,11 @@ fn element_of(
 }
 
 // Each row makes the element at its own place.
-fn own_places(alloc: Global, rows: &[Row]) -> Result<Vec<Option<usize>>, Memory>
-    ensures { IfOk result (λ places. places.items ≡ own_places 0 rows.now) }
+fn own_places(alloc: Global, rows: &RowArray) -> Result<Vec<Option<usize>>, Memory>
+    ensures { IfOk result (λ places. places.items ≡ own_places 0 rows.now.rows) }
 {
     let mut places = Vec::with_capacity(alloc, rows.len())?;
-    for (place, _row) in rows.iter().enumerate() {
+    for place in 0..rows.len() {
         places.push(Some(place))?;
     }
     Ok(places)
