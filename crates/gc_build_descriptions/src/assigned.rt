@@ -1,5 +1,4 @@
 ghost use Rattle.std.specs.Prelude.{◌≡◌, map, slice_get, IfOk};
-ghost use Rattle.std.specs.Option.{option_copied};
 ghost use Rattle.gc_build_descriptions.specs.Aggregates.{aggregated, aggregations, operand_value};
 ghost use Rattle.gc_build_descriptions.specs.Assigned.{assigned_values, contexts, row_at};
 ghost use Rattle.gc_build_descriptions.specs.Standing.{plain};
@@ -13,15 +12,15 @@ use gc_build_numbers::Setting;
 use gc_build_recipe::Assignment;
 use gc_expr::Expr;
 use gc_group::fold;
-use gc_rows::Row;
+use gc_rows::{Row, RowView};
 use gc_values::{MadeList, Val, ValList, value};
 use std::sync::ledger::Ledger;
 
 /// The row at a place in the table, if it has one there.
-pub(crate) fn row_at<'a>(setting: &'a Setting<'_>, place: u64) -> Option<&'a Row>
-    ensures { option_copied result ≡ slice_get setting.now.rows place }
+pub(crate) fn row_at<'a>(setting: &'a Setting<'_>, place: u64) -> Option<RowView<'a>>
+    ensures { result ≡ slice_get setting.now.rows place }
 {
-    setting.table.rows().as_slice().get(place as usize)
+    setting.table.get(place as usize)
 }
 
 /// The values of an assignment on the rows of a group. It takes the aggregates of its expression.
@@ -129,8 +128,11 @@ fn value_at<L: Ledger>(
     ensures { IfOk result (λ v. v ≡ value_of (on_row setting.now (row_at setting.now place)) folded.now (numbered_expr expr.now)) }
 {
     match row_at(setting, place) {
-        Some(row) => value_on(setting, expr, row, folded, steps),
-        None => value_on(setting, expr, &Row::empty(setting.alloc), folded, steps),
+        Some(row) => value_on(setting, expr, &row, folded, steps),
+        None => {
+            let empty = Row::empty(setting.alloc);
+            value_on(setting, expr, &RowView::of(&empty), folded, steps)
+        }
     }
 }
 
@@ -138,7 +140,7 @@ fn value_at<L: Ledger>(
 fn value_on<L: Ledger>(
     setting: &Setting<'_>,
     expr: &Expr,
-    row: &Row,
+    row: &RowView<'_>,
     folded: &ValList,
     steps: &mut Steps<L>,
 ) -> Result<Val, Memory>

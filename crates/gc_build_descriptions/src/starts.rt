@@ -1,6 +1,5 @@
-ghost use Rattle.std.specs.Prelude.{◌≡◌, slice_get, Some, IfOk};
+ghost use Rattle.std.specs.Prelude.{◌≡◌, [], slice_get, Some, IfOk};
 ghost use Rattle.std.specs.Option.{option_copied, unwrap_or};
-ghost use Rattle.gc_build_descriptions.specs.Assigned.{row_at};
 ghost use Rattle.gc_build_descriptions.specs.Described.{blank, seen_or_blank, start_of};
 ghost use Rattle.gc_build_numbers.specs.Settings.{read_graphs};
 ghost use Rattle.gc_rows.specs.Rows.{datum_at};
@@ -11,7 +10,7 @@ use crate::described::Description;
 use gc_base::{Duplicate, Id, LabelSet, Memory, Properties, Steps, Sym};
 use gc_build_numbers::{ReadGraphs, Setting};
 use gc_ppg::Graph;
-use gc_rows::Datum;
+use gc_rows::{Datum, RowView};
 use std::alloc::Global;
 use std::sync::ledger::Ledger;
 
@@ -30,7 +29,8 @@ pub(crate) fn start_of<L: Ledger>(
     match start {
         None => Ok(blank(setting.alloc)),
         Some(var) => {
-            let datum = datum_at(setting, var, first(places));
+            let row = row_at(setting, first(places));
+            let datum = datum_at(&row, var);
             described_in(setting.alloc, reads.own_graph(var), datum, steps)
         }
     }
@@ -56,11 +56,11 @@ fn first(places: &[u64]) -> u64
     }
 }
 
-// What a variable stands for on the row at a place.
-fn datum_at<'a>(setting: &'a Setting<'_>, var: Sym, place: u64) -> Option<&'a Datum>
-    ensures { option_copied result ≡ datum_at (row_at setting.now place) var }
+// What a variable stands for on a row, if it is there.
+fn datum_at<'a>(row: &'a Option<RowView<'_>>, var: Sym) -> Option<&'a Datum>
+    ensures { option_copied result ≡ datum_at (unwrap_or row.now []) var }
 {
-    match row_at(setting, place) {
+    match row {
         Some(row) => row.get(var),
         None => None,
     }
