@@ -15,7 +15,7 @@ use gc_base::{Memory, Steps, Sym};
 use gc_build_numbers::Numbered;
 use gc_build_recipe::{Chain, Variable};
 use gc_expr::Expr;
-use gc_rows::Row;
+use gc_rows::RowView;
 use gc_values::{Truth3, truth};
 use std::sync::ledger::Ledger;
 
@@ -80,7 +80,7 @@ pub(crate) fn keeps<L: Ledger>(
     makers: &[Option<&Numbered>],
     named: &[&Variable],
     place: usize,
-    row: &Row,
+    row: &RowView<'_>,
     steps: &mut Steps<L>,
 ) -> Result<bool, Memory>
     requires makers { map option_copied makers.now ≡ map (maker_of making.now) chain.now.places }
@@ -132,7 +132,7 @@ fn makes(maker: Option<&Numbered>, place: usize) -> bool
 }
 
 // Whether a row binds each of these variables.
-fn has_paths(paths: &[Sym], row: &Row) -> bool
+fn has_paths(paths: &[Sym], row: &RowView<'_>) -> bool
     ensures { result ≡ list_all (λ p. is_some (datum_at row.now p)) paths.now }
 {
     paths.iter().all(|path| row.get(*path).is_some())
@@ -144,7 +144,7 @@ fn holds<L: Ledger>(
     condition: &Option<Expr>,
     named: &[&Variable],
     place: usize,
-    row: &Row,
+    row: &RowView<'_>,
     steps: &mut Steps<L>,
 ) -> Result<bool, Memory>
     requires { map (λ v. v.now) named.now ≡ named_by making.now (option_map numbered_expr condition.now) }
@@ -162,7 +162,7 @@ fn is_true<L: Ledger>(
     condition: &Expr,
     named: &[&Variable],
     place: usize,
-    row: &Row,
+    row: &RowView<'_>,
     steps: &mut Steps<L>,
 ) -> Result<bool, Memory>
     requires { map (λ v. v.now) named.now ≡ named_by making.now (Some (numbered_expr condition.now)) }
@@ -178,7 +178,7 @@ fn truth_of<L: Ledger>(
     condition: &Expr,
     named: &[&Variable],
     place: usize,
-    row: &Row,
+    row: &RowView<'_>,
     steps: &mut Steps<L>,
 ) -> Result<Truth3, Memory>
     requires { map (λ v. v.now) named.now ≡ found_of making.now (names_in (numbered_expr condition.now)) }

@@ -89,10 +89,11 @@ fn kept_rows<L: Ledger>(
     ensures { IfOk result (λ kept. kept.items ≡ kept_from making.now chain.now 0 making.now.setting.rows) }
 {
     let setting = making.setting;
-    let rows = setting.table.rows().as_slice();
-    let mut kept = Vec::with_capacity(setting.alloc, rows.len())?;
-    for (place, row) in rows.iter().enumerate() {
-        kept.push(keeps(making, chain, makers, named, place, row, steps)?)?;
+    let table = setting.table;
+    let mut kept = Vec::with_capacity(setting.alloc, table.len())?;
+    for place in 0..table.len() {
+        let row = table.row(place);
+        kept.push(keeps(making, chain, makers, named, place, &row, steps)?)?;
     }
     Ok(kept)
 }

@@ -7,7 +7,7 @@ use gc_base::{Duplicate, Id, LabelSet, Memory, Properties};
 use gc_build_descriptions::Description;
 use gc_build_recipe::{Grouping, Variable};
 use gc_ppg::Kind;
-use gc_rows::{Datum, Row};
+use gc_rows::{Datum, RowView};
 use gc_values::{Made, MadeList};
 
 /// Some variables of the CONSTRUCT as the row at a place makes them.
@@ -15,7 +15,7 @@ pub(crate) fn made_of(
     making: &Making<'_>,
     variables: &[&Variable],
     place: usize,
-    row: &Row,
+    row: &RowView<'_>,
 ) -> Result<MadeList, Memory>
     ensures { IfOk result (λ made. made ≡ map (made_at making.now place row.now) (map (λ v. v.now) variables.now)) }
 {
@@ -32,7 +32,7 @@ pub(crate) fn made_of(
 fn made_at(
     making: &Making<'_>,
     place: usize,
-    row: &Row,
+    row: &RowView<'_>,
     variable: &Variable,
 ) -> Result<Made, Memory>
     ensures { IfOk result (λ made. made ≡ made_at making.now place row.now variable.now) }

@@ -1,12 +1,12 @@
 ghost use Rattle.std.specs.Prelude.{◌≡◌, ◌++◌, IfOk, OnOk};
 ghost use Rattle.std.specs.Option.{option_copied};
 ghost use Rattle.gc_rows.specs.Tables.{HasExactly};
-ghost use Rattle.gc_build.specs.AllPaths.{span_of, spans_of};
+ghost use Rattle.gc_build.specs.AllPaths.{span_if, span_of, spans_of};
 
 use crate::making::Making;
 use crate::standing::{Instances, has_walk};
 use gc_base::{Id, Memory, Sym};
-use gc_rows::Datum;
+use gc_rows::{Datum, RowView};
 
 /// Two nodes between which an ALL path means all walks.
 #[derive(Clone, Copy, PartialEq, Eq, PartialOrd, Ord)]
@@ -24,15 +24,25 @@ pub(crate) fn spans_of(
     ensures { IfOk result (λ spans. spans.items ≡ spans_of making.now kept.now path) }
 {
     let setting = making.setting;
-    let rows = setting.table.rows().as_slice();
+    let table = setting.table;
     let own = kept.of_path(path);
     let mut spans = Vec::new(setting.alloc);
-    for (place, row) in rows.iter().enumerate() {
-        if has_walk(kept, path, own, place) {
-            add_span(&mut spans, row.get(path))?;
-        }
+    for place in 0..table.len() {
+        let is_kept = has_walk(kept, path, own, place);
+        add_row(&mut spans, path, is_kept, &table.row(place))?;
     }
     Ok(spans)
+}
+
+// Adds the span that a path stands for on a row, if an instance is kept there that has the path.
+fn add_row(spans: &mut Vec<Span>, path: Sym, is_kept: bool, row: &RowView<'_>) -> Result<(), Memory>
+    ensures { OnOk result (spans.new.items ≡ spans.old.items ++ span_if path is_kept row.now) }
+{
+    if is_kept {
+        add_span(spans, row.get(path))
+    } else {
+        Ok(())
+    }
 }
 
 // Adds the span that a variable stands for, if it stands for one.

@@ -1,4 +1,4 @@
-ghost use Rattle.std.specs.Prelude.{◌≡◌, ◌++◌, ℕ, List, IfOk, OnOk, false, true};
+ghost use Rattle.std.specs.Prelude.{◌≡◌, ◌++◌, ℕ, List, IfOk, OnOk};
 ghost use Rattle.std.specs.List.{flat_map};
 ghost use Rattle.std.specs.Option.{option_copied};
 ghost use Rattle.gc_base.specs.declared.walk.Walk.{Walk as WalkSeen};
@@ -14,7 +14,7 @@ use crate::paths::stored_walk;
 use crate::standing::{Instances, has_walk};
 use gc_base::{Id, Memory, Steps, Sym, Walk};
 use gc_ppg::{EdgeInfo, NodeInfo};
-use gc_rows::{Datum, Row};
+use gc_rows::{Datum, RowView};
 use std::sync::ledger::Ledger;
 
 /// What stands on walks: nodes or edges.
@@ -79,27 +79,31 @@ pub(crate) fn ids_on_walks<T: OnWalk, L: Ledger>(
     ensures { IfOk result (λ ids. ids.items ≡ flat_map T.on (walks_of making.now kept.now path)) }
 {
     let setting = making.setting;
-    let rows = setting.table.rows().as_slice();
+    let table = setting.table;
     let own = kept.of_path(path);
     let mut ids = Vec::new(setting.alloc);
-    for (place, row) in rows.iter().enumerate() {
-        if has_walk(kept, path, own, place) {
-            add_row::<T, L>(&mut ids, making, path, row, steps)?;
-        }
+    for place in 0..table.len() {
+        let is_kept = has_walk(kept, path, own, place);
+        add_row::<T, L>(&mut ids, making, path, is_kept, &table.row(place), steps)?;
     }
     Ok(ids)
 }
 
-// Adds the identities of what stands on the walk that a row has for a path.
+// Adds the identities of what stands on the walk that a row has for a path, if an instance is kept there
+// that has the path.
 fn add_row<T: OnWalk, L: Ledger>(
     ids: &mut Vec<Id>,
     making: &Making<'_>,
     path: Sym,
-    row: &Row,
+    is_kept: bool,
+    row: &RowView<'_>,
     steps: &mut Steps<L>,
 ) -> Result<(), Memory>
-    ensures { OnOk result (ids.new.items ≡ ids.old.items ++ flat_map T.on (walk_if making.now path true row.now)) }
+    ensures { OnOk result (ids.new.items ≡ ids.old.items ++ flat_map T.on (walk_if making.now path is_kept row.now)) }
 {
+    if !is_kept {
+        return Ok(());
+    }
     match walk_in(making, path, row.get(path), steps) {
         None => Ok(()),
         Some(walk) => T::add_ids(ids, walk),

@@ -10,6 +10,7 @@ pub mod Lowness
 pub mod OneFirst
 pub mod Order
 pub mod Reaching
+pub mod RowEnds
 pub mod SameSegments
 pub mod StateRange
 pub mod TableWalks

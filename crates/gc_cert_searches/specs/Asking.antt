@@ -6,7 +6,7 @@ use Rattle.gc_cert_searches.specs.Searches.{Matched}
 
 -- on what searches are made
 abbrev pub matched_at : Matching → Matched
-matched_at m = record { graphs = m.graphs.now; segments = m.segments.now; rows = m.rows.now }
+matched_at m = record { graphs = m.graphs.now; segments = m.segments.now; rows = m.table.now.rows }
 
 -- a pattern
 abbrev pub pattern_at : FoundPattern → Pattern

@@ -9,7 +9,7 @@ ghost use Rattle.gc_cert_searches.specs.Readings.{ends_if, ends_in, ends_on};
 use gc_base::{Id, Memory, Steps, Sym};
 use gc_ppg::Graph;
 use gc_prod::Keyed;
-use gc_rows::{Datum, Row};
+use gc_rows::{Datum, RowView, Table};
 use std::alloc::Global;
 use std::sync::ledger::Ledger;
 
@@ -28,13 +28,14 @@ impl Keyed for WalkEnds {
     }
 }
 
-/// The ends of the walks that rows bind to a variable.
-pub(crate) fn ends_in(alloc: Global, rows: &[Row], path: Sym) -> Result<Vec<WalkEnds>, Memory>
-    ensures { IfOk result (λ ends. ends.items ≡ ends_in path rows.now) }
+/// The ends of the walks that the rows of a table bind to a variable.
+pub(crate) fn ends_in(alloc: Global, table: &Table, path: Sym) -> Result<Vec<WalkEnds>, Memory>
+    ensures { IfOk result (λ ends. ends.items ≡ ends_in path table.now.rows) }
 {
     let mut ends = Vec::new(alloc);
-    for row in rows {
-        if let Some(known) = ends_of(row, path) {
+    for number in 0..table.len() {
+        let row = table.row(number);
+        if let Some(known) = ends_of(&row, path) {
             ends.push(known)?;
         }
     }
@@ -42,7 +43,7 @@ pub(crate) fn ends_in(alloc: Global, rows: &[Row], path: Sym) -> Result<Vec<Walk
 }
 
 // The ends of the walk that a row binds to a variable.
-fn ends_of(row: &Row, path: Sym) -> Option<WalkEnds>
+fn ends_of(row: &RowView<'_>, path: Sym) -> Option<WalkEnds>
     ensures { result ≡ ends_if (datum_at row.now path) }
 {
     match row.get(path) {

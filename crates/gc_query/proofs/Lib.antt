@@ -15,6 +15,7 @@ mod InOrderLaws
 mod OneOutcome
 mod OneView
 mod Outcomes
+mod PastRows
 mod PathHeads
 mod PlainViews
 mod PlanRuns

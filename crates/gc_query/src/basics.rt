@@ -69,7 +69,7 @@ pub(crate) fn basic_made<L: Ledger>(
         steps,
     )?;
     let costs = costs_of(session.alloc, session.checked, basic)?;
-    if let Some(past) = first_past(&costs, table.rows().as_slice()) {
+    if let Some(past) = first_past(&costs, &table) {
         return Err(QueryRefusal::Fault(Fault::CostPastRange {
             at: past.token,
             row: past.row,

@@ -10,7 +10,7 @@ ghost use Rattle.gc_query.specs.Costs.{body_costs, chain_costs, cost_if, costs_o
 use gc_ast::{Basic, Located, PathBody, Pattern};
 use gc_base::{Memory, NameAt, Sym};
 use gc_lower::variable;
-use gc_rows::{Datum, Row};
+use gc_rows::{Datum, Table};
 use gc_sorts::Checked;
 use std::alloc::Global;
 
@@ -106,12 +106,12 @@ fn push_cost(costs: &mut Vec<CostAt>, checked: &Checked, cost: Option<NameAt>) -
     Ok(())
 }
 
-/// The first of some variables that is past the range on a row, on the first such row.
-pub(crate) fn first_past(costs: &[CostAt], rows: &[Row]) -> Option<PastAt>
-    ensures { result ≡ first_past costs.now rows.now }
+/// The first of some variables that is past the range on a row of a table, on the first such row.
+pub(crate) fn first_past(costs: &[CostAt], table: &Table) -> Option<PastAt>
+    ensures { result ≡ first_past costs.now table.now.rows }
 {
     for cost in costs {
-        if let Some(row) = past_row(cost.var, rows) {
+        if let Some(row) = past_row(cost.var, table) {
             return Some(PastAt {
                 token: cost.token,
                 row,
@@ -122,11 +122,12 @@ pub(crate) fn first_past(costs: &[CostAt], rows: &[Row]) -> Option<PastAt>
 }
 
 // The number of the first row on which a variable is past the range.
-fn past_row(x: Sym, rows: &[Row]) -> Option<u64>
-    ensures { result ≡ past_from 0 x rows.now }
+fn past_row(x: Sym, table: &Table) -> Option<u64>
+    ensures { result ≡ past_from 0 x table.now.rows }
 {
-    for (number, one) in rows.iter().enumerate() {
-        if is_past(one.get(x)) {
+    for number in 0..table.len() {
+        let row = table.row(number);
+        if is_past(row.get(x)) {
             return Some(number as u64);
         }
     }

@@ -45,7 +45,7 @@ pub fn segments<L: Ledger>(
         → IfOk result (AreSegments g) }
 {
     let view = viewed(alloc, checked, name, chains, cost, on, reads, graphs)?;
-    segments_of(&view, table.rows().as_slice(), steps)
+    segments_of(&view, table, steps)
 }
 
 // The view, as rows are asked for it.

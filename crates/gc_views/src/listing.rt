@@ -8,19 +8,19 @@ use crate::price::cost_of;
 use crate::view::Viewed;
 use gc_base::{Name, Sequence, Steps};
 use gc_prod::{Segment, SegmentList};
-use gc_rows::Row;
+use gc_rows::{RowView, Table};
 use std::sync::ledger::Ledger;
 
 /// The segments of the rows that have a walk, ascending, each once, or the walk of the first whose cost is bad.
 pub(crate) fn segments_of<L: Ledger>(
     view: &Viewed<'_>,
-    rows: &[Row],
+    table: &Table,
     steps: &mut Steps<L>,
 ) -> Result<SegmentList, ViewFault>
-    ensures good { IfOk result (AreSegmentsOf (view_of view.now) rows.now) }
-    ensures bad { IfErr result (IsFault (IsFirstBad (view_of view.now) rows.now)) }
+    ensures good { IfOk result (AreSegmentsOf (view_of view.now) table.now.rows) }
+    ensures bad { IfErr result (IsFault (IsFirstBad (view_of view.now) table.now.rows)) }
 {
-    let found = listed(view, rows, steps)?;
+    let found = listed(view, table, steps)?;
     let sorted = in_order(found.into_vec())?;
     Ok(numbered(view.alloc, sorted)?)
 }
@@ -28,15 +28,16 @@ pub(crate) fn segments_of<L: Ledger>(
 // The segments of the rows that have a walk, one after another, or the walk of the first whose cost is bad.
 fn listed<L: Ledger>(
     view: &Viewed<'_>,
-    rows: &[Row],
+    table: &Table,
     steps: &mut Steps<L>,
 ) -> Result<Sequence<Segment>, ViewFault>
-    ensures each { IfOk result (λ found. map (segment_of (view_of view.now)) (walking (view_of view.now) rows.now) ≡ map Some found) }
-    ensures bad { IfErr result (IsFault (IsFirstBad (view_of view.now) rows.now)) }
+    ensures each { IfOk result (λ found. map (segment_of (view_of view.now)) (walking (view_of view.now) table.now.rows) ≡ map Some found) }
+    ensures bad { IfErr result (IsFault (IsFirstBad (view_of view.now) table.now.rows)) }
 {
     let mut found = Sequence::new(view.alloc);
-    for row in rows {
-        if let Some(segment) = given(view, row, steps)? {
+    for number in 0..table.len() {
+        let row = table.row(number);
+        if let Some(segment) = given(view, &row, steps)? {
             found.push(segment)?;
         }
     }
@@ -46,7 +47,7 @@ fn listed<L: Ledger>(
 // The segment of a row, if it has a walk and the view a name, or its walk, where the cost is bad.
 fn given<L: Ledger>(
     view: &Viewed<'_>,
-    row: &Row,
+    row: &RowView<'_>,
     steps: &mut Steps<L>,
 ) -> Result<Option<Segment>, ViewFault>
     ensures good { IfOk result (Gives (view_of view.now) row.now) }

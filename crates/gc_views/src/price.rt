@@ -7,14 +7,14 @@ ghost use Rattle.gc_views.specs.Segments.{as_cost, cost_of, price, value_cost};
 
 use crate::view::Viewed;
 use gc_base::{Literal, Memory, Sequence, Steps, Walk};
-use gc_rows::Row;
+use gc_rows::RowView;
 use gc_values::{Val, value};
 use std::sync::ledger::Ledger;
 
 /// The cost of a walk on a row, if it is a good one. A walk without an edge has none.
 pub(crate) fn cost_of<L: Ledger>(
     view: &Viewed<'_>,
-    row: &Row,
+    row: &RowView<'_>,
     walk: &Walk,
     steps: &mut Steps<L>,
 ) -> Result<Option<u64>, Memory>
@@ -30,7 +30,7 @@ pub(crate) fn cost_of<L: Ledger>(
 // The value of COST on a row, or the number of edges of a view without COST, as a cost.
 fn price<L: Ledger>(
     view: &Viewed<'_>,
-    row: &Row,
+    row: &RowView<'_>,
     edges: u64,
     steps: &mut Steps<L>,
 ) -> Result<Option<u64>, Memory>

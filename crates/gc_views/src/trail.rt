@@ -3,7 +3,7 @@ ghost use Rattle.std.specs.Option.{option_copied, option_map};
 ghost use Rattle.gc_views.specs.Segments.{edge_of, joined_step, node_of, step_on, steps_on, walk_along};
 
 use gc_base::{Id, Memory, Sequence, Step, Sym, Walk};
-use gc_rows::{Datum, Row};
+use gc_rows::{Datum, RowView};
 use std::alloc::Global;
 
 /// The variable of an edge of a chain, and that of the node behind it.
@@ -25,7 +25,7 @@ pub(crate) struct Trail {
 
 impl Trail {
     /// The walk of a row along the chain, if the row has one.
-    pub(crate) fn walk(&self, alloc: Global, row: &Row) -> Result<Option<Walk>, Memory>
+    pub(crate) fn walk(&self, alloc: Global, row: &RowView<'_>) -> Result<Option<Walk>, Memory>
         ensures { IfOk result (λ walk. walk ≡ walk_along row.now self.now) }
     {
         let Some(start) = node_of(row.get(self.start)) else {
@@ -42,7 +42,7 @@ impl Trail {
 }
 
 // The steps that a row has for legs, if it has one for each.
-fn steps_on(alloc: Global, row: &Row, legs: &[Leg]) -> Result<Option<Vec<Step>>, Memory>
+fn steps_on(alloc: Global, row: &RowView<'_>, legs: &[Leg]) -> Result<Option<Vec<Step>>, Memory>
     ensures { IfOk result (λ steps. option_map (λ made. made.items) steps ≡ steps_on row.now legs.now) }
 {
     let mut steps = Vec::new(alloc);
@@ -56,7 +56,7 @@ fn steps_on(alloc: Global, row: &Row, legs: &[Leg]) -> Result<Option<Vec<Step>>,
 }
 
 // The step that a row has for a leg, if it has one.
-fn step_on(row: &Row, leg: Leg) -> Option<Step>
+fn step_on(row: &RowView<'_>, leg: Leg) -> Option<Step>
     ensures { result ≡ step_on row.now leg }
 {
     joined_step(edge_of(row.get(leg.edge)), node_of(row.get(leg.node)))

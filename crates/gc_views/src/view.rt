@@ -2,7 +2,7 @@ use crate::trail::Trail;
 use gc_base::{Memory, Walk};
 use gc_expr::Expr;
 use gc_ppg::GraphList;
-use gc_rows::Row;
+use gc_rows::RowView;
 use gc_values::Reads;
 use std::alloc::Global;
 
@@ -24,7 +24,7 @@ impl Viewed<'_> {
     ghost use Rattle.gc_views.specs.Segments.{walk_of};
 
     /// The walk of a row along the first chain, if the row has one.
-    pub(crate) fn walk(&self, row: &Row) -> Result<Option<Walk>, Memory>
+    pub(crate) fn walk(&self, row: &RowView<'_>) -> Result<Option<Walk>, Memory>
         ensures { IfOk result (λ walk. walk ≡ walk_of (view_of self.now) row.now) }
     {
         match &self.trail {

@@ -1,8 +1,6 @@
-use Rattle.std.proofs.Common.{[], ◌∷◌}
-use Rattle.std.specs.List.{AllByRecursion}
-use Rattle.gc_rows.specs.Rows.{IsOver}
+use Rattle.std.proofs.Common.{◌≡◌, [], ◌∷◌}
 use Rattle.gc_bench.proofs.join.second_rows.Given as goal
 
--- the rows so far are over the two variables
+-- the schema is that of the two variables
 abbrev pub invariant-loop-number : goal.invariant-loop-number
-invariant-loop-number l = AllByRecursion (IsOver (record { 0 = 1 } ∷ record { 0 = 2 } ∷ [])) l.rows
+invariant-loop-number l = l.rows.schema ≡ record { 0 = 1 } ∷ record { 0 = 2 } ∷ []

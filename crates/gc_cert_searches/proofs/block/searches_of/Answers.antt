@@ -1,7 +1,6 @@
 use Rattle.std.proofs.Common.{◌≡◌, ◌+◌, List, [], sym, ap, ◌∙◌, subst, take}
 use Rattle.std.proofs.lemmas.List.{take_all}
 use Rattle.std.specs.List.{AllByRecursion, flat_map}
-use Rattle.gc_rows.specs.declared.row.Binding.{Binding}
 use Rattle.gc_alg.specs.Views.{block_tree}
 use Rattle.gc_alg.specs.declared.atom.Atom.{Atom}
 use Rattle.gc_alg.specs.declared.block.Part.{Part}
@@ -25,14 +24,11 @@ add_atoms-requires-clause-searched g c =
 pub loop-part-preserved : goal.loop-part-preserved
 loop-part-preserved g c =
     let m : Matched = matched c.args.graphs.now c.args.segments.now c.args.table.now in
-    let rows : c.as_slice.result.now ≡ c.args.table.now.rows = c.as_slice.ensures ∙ c.rows.ensures.rows in
     let parts : List Part = c.deref-part-items.result.now in
     let i = c.loop-part.part-index in
     let now = c.add_atoms.new.docs.items in
     let added : AreAdded m (patterns_in c.part-item.result) c.loop-part.docs.items now =
-    subst (λ (atoms : List Atom). AreAdded m (flat_map pattern_by atoms) c.loop-part.docs.items now) c.deref.ensures.value
-    (subst (λ (rs : List (List Binding)). AreAdded (record { graphs = c.args.graphs.now; segments = c.args.segments.now; rows = rs }) (flat_map pattern_by c.deref.result.now) c.loop-part.docs.items now) rows
-    c.in_ok-add_atoms.ensures) in
+    subst (λ (atoms : List Atom). AreAdded m (flat_map pattern_by atoms) c.loop-part.docs.items now) c.deref.ensures.value c.in_ok-add_atoms.ensures in
     let before : AreAdded m (flat_map patterns_in (take i parts)) [] c.loop-part.docs.items =
     subst (λ (ps : List Part). AreAdded m (flat_map patterns_in (take i ps)) [] c.loop-part.docs.items) (sym c.deref-part-items.ensures.value) c.loop-part.invariant in
     let more = then_added m (flat_map patterns_in (take i parts)) (patterns_in c.part-item.result) [] c.loop-part.docs.items now before added in

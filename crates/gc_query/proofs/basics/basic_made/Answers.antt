@@ -9,7 +9,6 @@ use Rattle.gc_cert_searches.specs.Patterns.{AreOnly}
 use Rattle.gc_alg.specs.Views.{block_tree}
 use Rattle.gc_expr.specs.Views.{Names}
 use Rattle.gc_lower.specs.Scopes.{Scope}
-use Rattle.gc_rows.specs.declared.row.Binding.{Binding}
 use Rattle.gc_query.specs.Answered.{names_in, scope_in}
 use Rattle.gc_query.specs.Basics.{Comes, DenotesBasic}
 use Rattle.gc_query.specs.Built.{are_searched}
@@ -85,8 +84,7 @@ returns-in-Some-clause-due g c =
     cost_fails s names at c.args.basic.now c.in_ok-lowered.lowered.block (c.in_ok-lowered.ensures (MatchBlock (basic_tree (names_in c.args.session.now) c.args.basic.now)) c.requires.built.numbered (construct_at (names_in c.args.session.now) c.args.basic.now)).is_block c.in_ok-segments.segments
     c.in_ok-segments.ensures.due
     c.in_ok-table.table c.in_ok-table.ensures c.in-Some.past
-    (sym (c.first_past.ensures ∙ (ap (λ (costs : List CostAt). first_past costs c.as_slice.result.now) (c.deref.ensures.value ∙ c.in_ok-costs.ensures)
-    ∙ ap (λ (rows : List (List Binding)). first_past (costs_of s (basic_tree names c.args.basic.now)) rows) (c.as_slice.ensures ∙ c.rows.ensures.rows))) ∙ c.in-Some.is)
+    (sym (c.first_past.ensures ∙ ap (λ (costs : List CostAt). first_past costs c.in_ok-table.table.rows) (c.deref.ensures.value ∙ c.in_ok-costs.ensures)) ∙ c.in-Some.is)
 
 pub returns-clause-due : goal.returns-clause-due
 returns-clause-due g c =
@@ -94,8 +92,7 @@ returns-clause-due g c =
     let names : Names = names_in c.args.session.now in
     let at : Standing = record { graphs = c.args.graphs.now; next = c.args.next } in
     let none : first_past (costs_of s (basic_tree names c.args.basic.now)) c.in_ok-table.table.rows ≡ None =
-    sym (c.first_past.ensures ∙ (ap (λ (costs : List CostAt). first_past costs c.as_slice.result.now) (c.deref.ensures.value ∙ c.in_ok-costs.ensures)
-    ∙ ap (λ (rows : List (List Binding)). first_past (costs_of s (basic_tree names c.args.basic.now)) rows) (c.as_slice.ensures ∙ c.rows.ensures.rows))) ∙ c.in_default.is in
+    sym (c.first_past.ensures ∙ ap (λ (costs : List CostAt). first_past costs c.in_ok-table.table.rows) (c.deref.ensures.value ∙ c.in_ok-costs.ensures)) ∙ c.in_default.is in
     passes_on (DenotesBasic s at (basic_tree names c.args.basic.now)) (Comes s at (basic_tree names c.args.basic.now) c.in_ok-segments.segments c.in_ok-table.table) c.table_made.result
     (λ outcome h. costs_fit s names at c.args.basic.now c.in_ok-lowered.lowered.block (c.in_ok-lowered.ensures (MatchBlock (basic_tree (names_in c.args.session.now) c.args.basic.now)) c.requires.built.numbered (construct_at (names_in c.args.session.now) c.args.basic.now)).is_block c.in_ok-segments.segments
     c.in_ok-segments.ensures.due

@@ -4,4 +4,4 @@ use Rattle.gc_query.proofs.costs.past_row.Given as goal
 
 -- what is left decides
 abbrev pub invariant-loop-number : goal.invariant-loop-number
-invariant-loop-number l = past_from l.number l.x (drop l.number l.rows) ≡ past_from 0 l.x l.rows
+invariant-loop-number l = past_from l.number l.x (drop l.number l.table.rows) ≡ past_from 0 l.x l.table.rows

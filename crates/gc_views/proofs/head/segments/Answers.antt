@@ -10,5 +10,5 @@ unfolding scope_in
 returns-clause-of_graph g c = λ graph is_table.
     of_view (scope_of c.args.checked.now c.args.on)
     (chain_trees c.args.checked.now c.args.chains.now) c.args.on graph c.args.table.now is_table refl
-    (view_of c.in_ok-view.view) (ap (λ (v : View). v.trail) c.in_ok-view.ensures) c.as_slice.result.now (c.as_slice.ensures ∙ c.rows.ensures.rows)
+    (view_of c.in_ok-view.view) (ap (λ (v : View). v.trail) c.in_ok-view.ensures) c.args.table.now.rows refl
     c.segments_of.result c.segments_of.ensures.good
