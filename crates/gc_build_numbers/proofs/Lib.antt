@@ -1,4 +1,5 @@
 pub mod GroupsOf
+pub mod KeysLaws
 pub mod RowTurns
 pub mod TermLaws
 pub mod WhichLaws

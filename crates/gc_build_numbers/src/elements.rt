@@ -1,7 +1,8 @@
-ghost use Rattle.std.specs.Prelude.{◌≡◌, ◌<◌, IfOk, fold, length, map};
+ghost use Rattle.std.specs.Prelude.{◌≡◌, ◌<◌, List, Option, IfOk, fold, length, map};
 ghost use Rattle.std.specs.List.{All};
 ghost use Rattle.std.specs.Option.{option_and_then};
 ghost use Rattle.gc_group.specs.Groups.{AreGroupsOf};
+ghost use Rattle.gc_group.specs.declared.key.Key.{Key};
 ghost use Rattle.gc_build_numbers.specs.Keys.{id_of};
 ghost use Rattle.gc_build_numbers.specs.Numbers.{bound_number, elements_by, numbered_from, taken_by, which_has, with_place};
 
@@ -94,17 +95,19 @@ fn id_of(datum: &Datum) -> Option<u64>
     }
 }
 
-/// For each key of a row, in order, which of the elements has this key, if one does.
+/// For each of a number of rows, which have these keys, in order, which of the elements has its key, if one does.
 /// These are the elements of the groups of the rows, so each is written at its rows and none is looked for.
 pub(crate) fn which(
     alloc: Global,
-    keys: &[Option<Key>],
+    count: usize,
     elements: &[Element],
 ) -> Result<Vec<Option<usize>>, Memory>
-    requires { AreGroupsOf keys.now (map (λ e. e.group) elements.now) }
-    ensures { IfOk result (λ which. which.items ≡ map (option_and_then (which_has elements.now)) keys.now) }
+    ghost keys: { List (Option Key) }
+    requires as_many { count ≡ length keys }
+    requires each { AreGroupsOf keys (map (λ e. e.group) elements.now) }
+    ensures { IfOk result (λ which. which.items ≡ map (option_and_then (which_has elements.now)) keys) }
 {
-    let mut which = vec![in alloc; None; keys.len()]?;
+    let mut which = vec![in alloc; None; count]?;
     for (place, element) in elements.iter().enumerate() {
         give_place(&mut which, element.group.rows.as_slice(), place);
     }

@@ -1,16 +1,17 @@
-ghost use Rattle.std.specs.Prelude.{◌≡◌, IfOk, OnOk};
+ghost use Rattle.std.specs.Prelude.{◌≡◌, List, Option, IfOk, OnOk, length};
 ghost use Rattle.gc_group.specs.Groups.{AreGroupsOf};
-ghost use Rattle.gc_build_numbers.specs.Keys.{groups_of};
+ghost use Rattle.gc_group.specs.declared.key.Key.{Key};
+ghost use Rattle.gc_build_numbers.specs.Keys.{groups_of, keys_of};
 ghost use Rattle.gc_build_numbers.specs.Numbers.{elements_by, numbered_by, numbering, with_keys, with_variable};
 
 use crate::elements::{elements, taken_by, which};
-use crate::keys::keys;
+use crate::keys::{element_rows, is_by_elements, keys};
 use crate::numbered::{ElementList, Numbered, NumberedList, Numbering, RowElements};
 use crate::setting::Setting;
 use crate::whole_rows::add_rows;
 use gc_base::{Memory, Steps};
 use gc_build_recipe::{Grouping, Variable};
-use gc_group::{Group, Key, groups};
+use gc_group::{Group, element_groups, groups};
 use std::alloc::Global;
 use std::sync::ledger::Ledger;
 
@@ -47,50 +48,65 @@ fn add<L: Ledger>(
     match &variable.grouping {
         Grouping::EachRow => add_rows(setting, numbering, variable.var),
         _ => {
-            let keys = keys(setting, &numbering.variables, variable, steps)?;
-            add_by_keys(setting.alloc, numbering, variable, &keys)
+            let groups = groups_of(setting, &numbering.variables, variable, steps)?;
+            add_groups(setting, numbering, variable, groups)
         }
     }
 }
 
-// The same, by the keys of the rows.
-fn add_by_keys(
-    alloc: Global,
+// The groups of the rows by their keys for a variable, by ascending keys.
+fn groups_of<L: Ledger>(
+    setting: &Setting<'_>,
+    before: &NumberedList,
+    variable: &Variable,
+    steps: &mut Steps<L>,
+) -> Result<Vec<Group>, Memory>
+    ensures groups { IfOk result (λ groups. groups.items ≡ groups_of (keys_of setting.now before.now variable.now)) }
+    ensures each { IfOk result (λ groups. AreGroupsOf (keys_of setting.now before.now variable.now) groups.items) }
+{
+    if is_by_elements(&variable.grouping) {
+        element_groups(setting.alloc, element_rows(setting, before, variable)?)
+    } else {
+        groups(setting.alloc, &keys(setting, before, variable, steps)?)
+    }
+}
+
+// Numbers one variable more, by the groups of the rows, which have these keys.
+fn add_groups(
+    setting: &Setting<'_>,
     numbering: &mut Numbering,
     variable: &Variable,
-    keys: &[Option<Key>],
+    groups: Vec<Group>,
 ) -> Result<(), Memory>
-    ensures { OnOk result (numbering.new ≡ with_keys variable.now numbering.old keys.now) }
+    ghost keys: { List (Option Key) }
+    requires as_many { length setting.now.rows ≡ length keys }
+    requires groups { groups.items ≡ groups_of keys }
+    requires each { AreGroupsOf keys groups.items }
+    ensures { OnOk result (numbering.new ≡ with_keys variable.now numbering.old keys) }
 {
-    let groups = groups_of(alloc, keys)?;
     let taken = taken_by(&variable.grouping, &groups);
-    let numbered = numbered_by(alloc, numbering.next, variable, keys, groups)?;
+    let count = setting.table.len();
+    let numbered = numbered_by(setting.alloc, numbering.next, variable, count, groups)?;
     numbering.next = numbering.next.checked_add(taken).ok_or(Memory)?;
     numbering.variables.push(numbered)?;
     Ok(())
 }
 
-// The groups of the rows with these keys, by ascending keys.
-fn groups_of(alloc: Global, keys: &[Option<Key>]) -> Result<Vec<Group>, Memory>
-    ensures groups { IfOk result (λ groups. groups.items ≡ groups_of keys.now) }
-    ensures each { IfOk result (λ groups. AreGroupsOf keys.now groups.items) }
-{
-    groups(alloc, keys)
-}
-
-// A variable with the elements of the groups of rows with these keys, and which of them each row makes.
+// A variable with the elements of the groups of a number of rows, which have these keys, and which of them each row makes.
 fn numbered_by(
     alloc: Global,
     next: u64,
     variable: &Variable,
-    keys: &[Option<Key>],
+    count: usize,
     groups: Vec<Group>,
 ) -> Result<Numbered, Memory>
-    requires { AreGroupsOf keys.now groups.items }
-    ensures { IfOk result (λ n. n ≡ numbered_by variable.now.var keys.now (elements_by variable.now.grouping next groups.items)) }
+    ghost keys: { List (Option Key) }
+    requires as_many { count ≡ length keys }
+    requires each { AreGroupsOf keys groups.items }
+    ensures { IfOk result (λ n. n ≡ numbered_by variable.now.var keys (elements_by variable.now.grouping next groups.items)) }
 {
     let elements = elements(alloc, &variable.grouping, next, groups)?;
-    let which = which(alloc, keys, &elements)?;
+    let which = which(alloc, count, &elements)?;
     Ok(Numbered {
         var: variable.var,
         elements: ElementList::from_vec(elements),

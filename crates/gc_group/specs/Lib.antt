@@ -1,3 +1,4 @@
+pub mod ElementKeys
 pub mod Folds
 pub mod Gathered
 pub mod Groups

@@ -5,7 +5,8 @@ ghost use Rattle.gc_group.specs.Groups.{AreGroupsOf, key_order};
 
 use crate::held::{Held, keyed_rows, sorted};
 use crate::key::{Key, key_cmp};
-use gc_base::{Memory, Sequence};
+use crate::row_numbers::RowNumbers;
+use gc_base::Memory;
 use std::alloc::Global;
 use std::mem;
 
@@ -16,9 +17,6 @@ pub struct Group {
     /// The numbers of these rows, ascending.
     pub rows: RowNumbers,
 }
-
-/// Numbers of rows, from 0.
-pub type RowNumbers = Sequence<u64>;
 
 /// The groups of rows, of each of which it takes the key, in order; a row without a key is in no group.
 pub fn groups(alloc: Global, keys: &[Option<Key>]) -> Result<Vec<Group>, Memory>

@@ -1,4 +1,4 @@
-ghost use Rattle.std.specs.Prelude.{◌≡◌, ◌++◌, ◌∷◌, [], IfOk, OnOk};
+ghost use Rattle.std.specs.Prelude.{◌≡◌, ◌++◌, ◌∷◌, [], Some, IfOk, OnOk};
 
 use gc_base::{Duplicate, Memory};
 use gc_rows::Datum;
@@ -30,6 +30,24 @@ impl KeyParts {
         Ok(KeyParts {
             parts: SmallVec::with_capacity(alloc, parts)?,
         })
+    }
+
+    /// One part. It takes no memory.
+    pub(crate) fn of_one(alloc: Global, part: Datum) -> KeyParts
+        ensures { result ≡ Some part ∷ [] }
+    {
+        KeyParts {
+            parts: SmallVec::from_buf_and_len(alloc, [Some(part), None], 1),
+        }
+    }
+
+    /// Two parts. They take no memory.
+    pub(crate) fn of_two(alloc: Global, first: Datum, second: Datum) -> KeyParts
+        ensures { result ≡ Some first ∷ Some second ∷ [] }
+    {
+        KeyParts {
+            parts: SmallVec::from_buf(alloc, [Some(first), Some(second)]),
+        }
     }
 
     /// Adds a part at the end.

@@ -9,7 +9,7 @@ use Rattle.std.proofs.lemmas.Bool.Decides.{nat_tests}
 use Rattle.std.proofs.lemmas.List.{get_or_default}
 use Rattle.std.proofs.lemmas.List.Elements.{recursion_from_All, All-from_all_within}
 use Rattle.std.proofs.lemmas.List.Sorted.{IsNonDecreasingBy-drop}
-use Rattle.gc_ppg.specs.KeyedPlaces.{at_key}
+use Rattle.gc_ppg.specs.KeyedPlaces.{at_key, run_at}
 use Rattle.gc_ppg.specs.declared.places.PlaceAt.{PlaceAt}
 
 less_differs : (a k : ℕ) → nat_lt a k ≡ true → (a == k) ≡ false
@@ -45,10 +45,7 @@ module _ (key : ℕ) where
   abbrev pub of_key : PlaceAt → Option PlaceAt
   of_key e = cond (e.key == key) (Some e) None
 
-  abbrev pub run_at : List PlaceAt → ℕ → Option PlaceAt
-  run_at xs i = option_and_then of_key (slice_get xs i)
-
-  others_none : (xs : List PlaceAt) (i : ℕ) → Others xs → run_at xs i ≡ None
+  others_none : (xs : List PlaceAt) (i : ℕ) → Others xs → run_at key xs i ≡ None
   others_none [] i h = refl
   others_none (x ∷ xs) zero h = ap (λ b. cond b (Some x) None) h.0
   others_none (x ∷ xs) (suc i) h = others_none xs i h.1
@@ -57,7 +54,7 @@ module _ (key : ℕ) where
   others_kept [] h = refl
   others_kept (x ∷ xs) h = ap (λ b. cond b (x ∷ at_key key xs) (at_key key xs)) h.0 ∙ others_kept xs h.1
 
-  in_run : (xs : List PlaceAt) (i : ℕ) → Run xs → slice_get (at_key key xs) i ≡ run_at xs i
+  in_run : (xs : List PlaceAt) (i : ℕ) → Run xs → slice_get (at_key key xs) i ≡ run_at key xs i
   in_run [] i r = refl
   in_run (x ∷ xs) zero r =
       elim (x.key == key) as (λ b. (x.key == key) ≡ b → slice_get (cond b (x ∷ at_key key xs) (at_key key xs)) 0 ≡ cond b (Some x) None) [
@@ -65,7 +62,7 @@ module _ (key : ℕ) where
         | false ↦ λ e. ap (λ ys. slice_get ys 0) (others_kept xs (r.0 e))
       ] refl
   in_run (x ∷ xs) (suc i) r =
-      elim (x.key == key) as (λ b. (x.key == key) ≡ b → slice_get (cond b (x ∷ at_key key xs) (at_key key xs)) (suc i) ≡ run_at xs i) [
+      elim (x.key == key) as (λ b. (x.key == key) ≡ b → slice_get (cond b (x ∷ at_key key xs) (at_key key xs)) (suc i) ≡ run_at key xs i) [
         | true ↦ λ e. in_run xs i r.1
         | false ↦ λ e. ap (λ ys. slice_get ys (suc i)) (others_kept xs (r.0 e)) ∙ sym (others_none xs i (r.0 e))
       ] refl
@@ -95,7 +92,7 @@ module _ (key : ℕ) where
   -- the i-th entry of a key is the i-th from where the entries of that key begin, if it has the key
   pub from_start : (xs : List PlaceAt) (start i : ℕ) → start ≤ length xs → IsNonDecreasingBy (λ e. e.key) xs
       → IsPartitionPoint (λ e. nat_lt e.key key ≡ true) (λ e. nat_lt e.key key ≡ false) xs start
-      → slice_get (at_key key xs) i ≡ run_at (drop start xs) i
+      → slice_get (at_key key xs) i ≡ run_at key (drop start xs) i
   from_start xs start i le up p =
       let all = length_dropped start xs le in
       ap (λ ys. slice_get ys i) (skipped start xs le p.0)
@@ -110,7 +107,7 @@ tie_is a b = grind (arith, nat_tests)
 -- a stable sort keeps the entries of each key
 pub kept_by_sort : (xs ys : List PlaceAt) → IsStableByKey (λ e. e.key) nat_cmp xs ys → (key : ℕ) → at_key key ys ≡ at_key key xs
 kept_by_sort xs ys stable key =
-    let e : PlaceAt = record { key = key; place = 0 } in
+    let e : PlaceAt = record { key = key; place = 0; other = 0 } in
     (λ j. filter (λ y. sym (tie_is key y.key) j) ys) ∙ (stable e ∙ (λ j. filter (λ y. tie_is key y.key j) xs))
 
 less_more : (a b k : ℕ) → a ≤ b → nat_lt b k ≡ true → nat_lt a k ≡ true

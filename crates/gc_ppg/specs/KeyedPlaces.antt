@@ -1,7 +1,7 @@
 -- Places of edges by their ends.
-use Rattle.std.specs.Prelude.{◌≡◌, ℕ, ◌+◌, ◌==◌, List, [], ◌∷◌, Option, slice_get}
+use Rattle.std.specs.Prelude.{◌≡◌, ℕ, ◌+◌, ◌==◌, cond, List, [], ◌∷◌, Option, Some, None, slice_get}
 use Rattle.std.specs.List.{filter}
-use Rattle.std.specs.Option.{option_map}
+use Rattle.std.specs.Option.{option_map, option_and_then}
 use Rattle.gc_spec.specs.PropertyGraph.{Edge}
 use Rattle.gc_ppg.specs.declared.places.PlaceAt.{PlaceAt}
 
@@ -13,11 +13,15 @@ at_key key entries = filter (λ e. e.key == key) entries
 abbrev pub place_in : List PlaceAt → (key i : ℕ) → Option ℕ
 place_in places key i = option_map (λ e. e.place) (slice_get (at_key key places) i)
 
--- each edge's end with the place of the edge, where the first has the place n
-abbrev pub ends_from : (Edge → ℕ) → ℕ → List Edge → List PlaceAt
-ends_from end n [] = []
-ends_from end n (e ∷ edges) = record { key = end e; place = n } ∷ ends_from end (n + 1) edges
+-- the i-th of some places, if it has a key
+abbrev pub run_at : (key : ℕ) → List PlaceAt → (i : ℕ) → Option PlaceAt
+run_at key places i = option_and_then (λ e. cond (e.key == key) (Some e) None) (slice_get places i)
+
+-- each edge's end with the place of the edge and its other end, where the first has the place n
+abbrev pub ends_from : (end other : Edge → ℕ) → ℕ → List Edge → List PlaceAt
+ends_from end other n [] = []
+ends_from end other n (e ∷ edges) = record { key = end e; place = n; other = other e } ∷ ends_from end other (n + 1) edges
 
 -- places that list the edges of each end, in the order of the edges
-abbrev pub AreEnds : (Edge → ℕ) → List Edge → List PlaceAt → Type 0
-AreEnds end edges places = (key : ℕ) → at_key key places ≡ at_key key (ends_from end 0 edges)
+abbrev pub AreEnds : (end other : Edge → ℕ) → List Edge → List PlaceAt → Type 0
+AreEnds end other edges places = (key : ℕ) → at_key key places ≡ at_key key (ends_from end other 0 edges)

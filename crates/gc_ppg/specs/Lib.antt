@@ -6,6 +6,7 @@ pub mod KeyedPlaces
 pub mod LabelPlaces
 pub mod LabelReads
 pub mod LabelledIds
+pub mod NodeSides
 pub mod Reads
 pub mod Refusals
 pub mod ShapeOf

@@ -10,6 +10,7 @@ ghost use Rattle.gc_ppg.specs.Reads.{handed_out};
 use crate::element::{EdgeInfo, NodeInfo, PathInfo};
 use crate::index::GraphIndex;
 use crate::kind::{Element, Labelled};
+use crate::node_edges::{NodeEdges, Side};
 use crate::search::find;
 use crate::shape::Kind;
 use gc_base::{Id, Memory, Name, Numbered, Steps, copies};
@@ -48,6 +49,7 @@ impl Model for Graph {
 impl Graph {
     ghost use Rattle.gc_ppg.specs.LabelledIds.{labelled_ids};
     ghost use Rattle.gc_ppg.specs.LabelReads.{kind_ids};
+    ghost use Rattle.gc_ppg.specs.NodeSides.{edges_at};
 
     // The graph of these elements, without an index.
     pub(crate) fn of_elements(
@@ -181,6 +183,16 @@ impl Graph {
         ensures step { steps.new ≡ steps.old + handed_out result }
     {
         counted(self.nth_in(node, i), steps)
+    }
+
+    /// The edges at a side of a node, which are then read one by one.
+    pub fn edges_at(&self, node: Id, side: Side) -> NodeEdges<'_>
+        ensures { result ≡ record { side = side; all = edges_at side node self.now.edges } }
+    {
+        match &self.index {
+            Some(index) => NodeEdges::placed(&self.edges, side, node, index.places_at(node, side)),
+            None => NodeEdges::gone_over(&self.edges, side, node),
+        }
     }
 
     /// The first identity that is above all of the graph, or 0 where it has no element. It is at most
@@ -381,14 +393,14 @@ fn id_of<T: Element>(elements: &[T], place: usize) -> Option<Id>
 }
 
 // The i-th of those edges that leave a node.
-fn nth_leaving(edges: &[EdgeInfo], node: Id, i: usize) -> Option<&EdgeInfo>
+pub(crate) fn nth_leaving(edges: &[EdgeInfo], node: Id, i: usize) -> Option<&EdgeInfo>
     ensures { option_copied result ≡ slice_get (filter (λ e. e.from == node) edges.now) i }
 {
     edges.iter().filter(|edge| edge.from == node).nth(i)
 }
 
 // The i-th of those edges that come to a node.
-fn nth_coming(edges: &[EdgeInfo], node: Id, i: usize) -> Option<&EdgeInfo>
+pub(crate) fn nth_coming(edges: &[EdgeInfo], node: Id, i: usize) -> Option<&EdgeInfo>
     ensures { option_copied result ≡ slice_get (filter (λ e. e.to == node) edges.now) i }
 {
     edges.iter().filter(|edge| edge.to == node).nth(i)
@@ -425,7 +437,10 @@ fn labelled<'a, T: Labelled>(elements: &'a [T], label: &Name, i: usize) -> Optio
 }
 
 // An answer, with one step where an element is handed out.
-fn counted<'a, T, L: Ledger>(answer: Option<&'a T>, steps: &mut Steps<L>) -> Option<&'a T>
+pub(crate) fn counted<'a, T, L: Ledger>(
+    answer: Option<&'a T>,
+    steps: &mut Steps<L>,
+) -> Option<&'a T>
     ensures same { result ≡ answer.entry }
     ensures step { steps.new ≡ steps.old + handed_out result }
 {

@@ -6,6 +6,7 @@ ghost use Rattle.gc_ppg.specs.KeyedPlaces.{AreEnds};
 
 use crate::element::{EdgeInfo, NodeInfo, PathInfo};
 use crate::label_index::LabelIndex;
+use crate::node_edges::Side;
 use crate::places::{PlaceAt, Places};
 use crate::shape::Kind;
 use gc_base::{Id, Memory, Name};
@@ -22,8 +23,8 @@ pub(crate) struct GraphIndex {
 }
 
 impl GraphIndex {
-    ghost use Rattle.gc_ppg.specs.Indexed.{labels_in};
-    ghost use Rattle.gc_ppg.specs.KeyedPlaces.{place_in};
+    ghost use Rattle.gc_ppg.specs.Indexed.{ends_at, labels_in};
+    ghost use Rattle.gc_ppg.specs.KeyedPlaces.{at_key, place_in, run_at};
     ghost use Rattle.gc_ppg.specs.LabelPlaces.{places_of};
 
     // The index of a graph of these elements.
@@ -63,6 +64,16 @@ impl GraphIndex {
         self.coming.at(node.get(), i)
     }
 
+    // The places from where those of the edges at a side of a node begin on.
+    pub(crate) fn places_at(&self, node: Id, side: Side) -> &[PlaceAt]
+        ensures { (i : ℕ) → run_at node result.now i ≡ slice_get (at_key node (ends_at side self.now)) i }
+    {
+        match side {
+            Side::Leaving => self.leaving.from(node.get()),
+            Side::Coming => self.coming.from(node.get()),
+        }
+    }
+
     // The places of the elements of a kind that have a label, ascending.
     pub(crate) fn labelled(&self, kind: Kind, label: &Name) -> &[usize]
         ensures { result.now ≡ places_of (labels_in self.now kind) label.now }
@@ -77,24 +88,24 @@ impl GraphIndex {
 
 // The places of edges by their sources.
 fn by_source(alloc: Global, edges: &[EdgeInfo]) -> Result<Places, Memory>
-    ensures { IfOk result (AreEnds (λ e. e.from) edges.now) }
+    ensures { IfOk result (AreEnds (λ e. e.from) (λ e. e.to) edges.now) }
 {
     let mut places = Vec::with_capacity(alloc, edges.len())?;
     for (place, edge) in edges.iter().enumerate() {
-        let key = edge.from.get();
-        places.push(PlaceAt { key, place })?;
+        let (key, other) = (edge.from.get(), edge.to.get());
+        places.push(PlaceAt { key, place, other })?;
     }
     Places::of(places)
 }
 
 // The places of edges by their targets.
 fn by_target(alloc: Global, edges: &[EdgeInfo]) -> Result<Places, Memory>
-    ensures { IfOk result (AreEnds (λ e. e.to) edges.now) }
+    ensures { IfOk result (AreEnds (λ e. e.to) (λ e. e.from) edges.now) }
 {
     let mut places = Vec::with_capacity(alloc, edges.len())?;
     for (place, edge) in edges.iter().enumerate() {
-        let key = edge.to.get();
-        places.push(PlaceAt { key, place })?;
+        let (key, other) = (edge.to.get(), edge.from.get());
+        places.push(PlaceAt { key, place, other })?;
     }
     Places::of(places)
 }

@@ -8,11 +8,12 @@ use gc_base::Memory;
 use std::alloc::Global;
 use std::marker::Model;
 
-// A place in a list, by a key of what stands there.
+// A place in the list of edges, by the node at one end of the edge there, with the node at its other end.
 #[derive(Clone, Copy, Debug)]
 pub(crate) struct PlaceAt {
     pub(crate) key: u64,
     pub(crate) place: usize,
+    pub(crate) other: u64,
 }
 
 // Places by key. Contracts see the list of both, which ascends by key. Where keys lie close together,
@@ -36,7 +37,7 @@ impl Model for Places {
 }
 
 impl Places {
-    ghost use Rattle.gc_ppg.specs.KeyedPlaces.{at_key};
+    ghost use Rattle.gc_ppg.specs.KeyedPlaces.{at_key, run_at};
 
     // These places, by key; those of one key stay in their order.
     pub(crate) fn of(entries: Vec<PlaceAt>) -> Result<Places, Memory>
@@ -62,6 +63,14 @@ impl Places {
     {
         let start = self.start(key);
         place_at(&self.entries[start..], i, key)
+    }
+
+    // The places from where those of a key begin on.
+    pub(crate) fn from(&self, key: u64) -> &[PlaceAt]
+        ensures { (i : ℕ) → run_at key result.now i ≡ slice_get (at_key key self.now) i }
+    {
+        let start = self.start(key);
+        &self.entries[start..]
     }
 
     // Where the places of a key begin.

@@ -5,4 +5,4 @@ use Rattle.gc_build_numbers.proofs.elements.which.Given as goal
 
 -- which of the elements so far each row makes
 abbrev pub invariant-loop-place : goal.invariant-loop-place
-invariant-loop-place l = l.which.items ≡ map (option_and_then (which_has (take l.place l.elements))) l.keys
+invariant-loop-place g l = l.which.items ≡ map (option_and_then (which_has (take l.place l.elements))) g.keys

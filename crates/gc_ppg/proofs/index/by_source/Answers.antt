@@ -5,4 +5,4 @@ use Rattle.gc_ppg.proofs.index.by_source.Goals as goal
 
 pub returns : goal.returns
 returns c =
-    IfOk-weaker c.of.result _ _ (λ places same. ends_kept (λ e. e.from) c.args.edges.now c.loop-place.places.items places c.loop-place.place (omega arith) c.loop-place.invariant same) c.of.ensures
+    IfOk-weaker c.of.result _ _ (λ places same. ends_kept (λ e. e.from) (λ e. e.to) c.args.edges.now c.loop-place.places.items places c.loop-place.place (omega arith) c.loop-place.invariant same) c.of.ensures

@@ -4,4 +4,4 @@ use Rattle.gc_ppg.proofs.index.by_target.Given as goal
 
 -- the places so far with the rest are those of all
 abbrev pub invariant-loop-place : goal.invariant-loop-place
-invariant-loop-place l = l.places.items ++ ends_from (λ e. e.to) l.place (drop l.place l.edges) ≡ ends_from (λ e. e.to) 0 l.edges
+invariant-loop-place l = l.places.items ++ ends_from (λ e. e.to) (λ e. e.from) l.place (drop l.place l.edges) ≡ ends_from (λ e. e.to) (λ e. e.from) 0 l.edges

@@ -12,7 +12,7 @@ returns-in-Some c =
     let index = c.in-Some.index in
     let is_index = index_of _ g c.self.inside.index index c.self.invariant.1 c.in-Some.is c.self.view_is in
     c.edge_at.ensures
-    ∙ (ap (option_and_then (slice_get g.edges)) c.coming.ensures ∙ read_at (λ e. e.to) c.args.node g.edges index.coming c.args.i is_index.coming)
+    ∙ (ap (option_and_then (slice_get g.edges)) c.coming.ensures ∙ read_at (λ e. e.to) (λ e. e.from) c.args.node g.edges index.coming c.args.i is_index.coming)
 
 pub returns-in-None : goal.returns-in-None
 returns-in-None c =

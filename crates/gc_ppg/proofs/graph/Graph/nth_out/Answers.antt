@@ -12,7 +12,7 @@ returns-in-Some c =
     let index = c.in-Some.index in
     let is_index = index_of _ g c.self.inside.index index c.self.invariant.1 c.in-Some.is c.self.view_is in
     c.edge_at.ensures
-    ∙ (ap (option_and_then (slice_get g.edges)) c.leaving.ensures ∙ read_at (λ e. e.from) c.args.node g.edges index.leaving c.args.i is_index.leaving)
+    ∙ (ap (option_and_then (slice_get g.edges)) c.leaving.ensures ∙ read_at (λ e. e.from) (λ e. e.to) c.args.node g.edges index.leaving c.args.i is_index.leaving)
 
 pub returns-in-None : goal.returns-in-None
 returns-in-None c =

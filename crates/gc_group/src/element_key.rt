@@ -1,0 +1,63 @@
+ghost use Rattle.std.specs.Prelude.{◌≡◌};
+ghost use Rattle.gc_group.specs.ElementKeys.{first_kind, key_of};
+ghost use Rattle.gc_group.specs.Groups.{key_order};
+
+use crate::key::Key;
+use crate::key_parts::KeyParts;
+use gc_base::Id;
+use gc_rows::Datum;
+use std::alloc::Global;
+use std::cmp::Ordering;
+
+/// A key that is an element, or the two nodes at the ends of an edge. It takes no memory.
+#[derive(Debug, Clone, Copy)]
+pub enum ElementKey {
+    Node(Id),
+    Edge(Id),
+    Stored(Id),
+    Ends(Id, Id),
+}
+
+impl ElementKey {
+    /// The same, as a key with its parts. They take no memory.
+    pub fn to_key(&self, alloc: Global) -> Key
+        ensures { result ≡ key_of self.now }
+    {
+        Key {
+            parts: match self {
+                ElementKey::Node(id) => KeyParts::of_one(alloc, Datum::Node(*id)),
+                ElementKey::Edge(id) => KeyParts::of_one(alloc, Datum::Edge(*id)),
+                ElementKey::Stored(id) => KeyParts::of_one(alloc, Datum::Stored(*id)),
+                ElementKey::Ends(source, target) => {
+                    KeyParts::of_two(alloc, Datum::Node(*source), Datum::Node(*target))
+                }
+            },
+        }
+    }
+}
+
+/// The order of keys.
+pub(crate) fn element_key_cmp(a: &ElementKey, b: &ElementKey) -> Ordering
+    ensures { result ≡ key_order (key_of a.now) (key_of b.now) }
+{
+    match (a, b) {
+        (ElementKey::Node(x), ElementKey::Node(y)) => x.cmp(y),
+        (ElementKey::Edge(x), ElementKey::Edge(y)) => x.cmp(y),
+        (ElementKey::Stored(x), ElementKey::Stored(y)) => x.cmp(y),
+        (ElementKey::Ends(x, more), ElementKey::Ends(y, other)) => x.cmp(y).then(more.cmp(other)),
+        (ElementKey::Node(x), ElementKey::Ends(y, _)) => x.cmp(y).then(Ordering::Less),
+        (ElementKey::Ends(x, _), ElementKey::Node(y)) => x.cmp(y).then(Ordering::Greater),
+        _ => first_kind(a).cmp(&first_kind(b)),
+    }
+}
+
+// The kind of the first part: nodes, edges, stored paths.
+fn first_kind(key: &ElementKey) -> u8
+    ensures { result ≡ first_kind key.now }
+{
+    match key {
+        ElementKey::Node(_) | ElementKey::Ends(_, _) => 0,
+        ElementKey::Edge(_) => 1,
+        ElementKey::Stored(_) => 2,
+    }
+}

@@ -1,0 +1,126 @@
+ghost use Rattle.std.specs.Prelude.{◌≡◌, List, Option, IfOk};
+ghost use Rattle.std.specs.List.Sorted.{IsPermutation, IsSortedByKey, IsStableByKey};
+ghost use Rattle.gc_group.specs.Gathered.{AreGathered, alone, keyed_rows};
+ghost use Rattle.gc_group.specs.Groups.{AreGroupsOf, key_order};
+ghost use Rattle.gc_group.specs.declared.key.Key.{Key};
+
+use crate::element_key::{ElementKey, element_key_cmp};
+use crate::grouping::Group;
+use crate::row_numbers::RowNumbers;
+use gc_base::Memory;
+use std::alloc::Global;
+use std::cmp::Ordering;
+use std::marker::Model;
+use std::mem;
+
+/// The number of a row that has a key of elements alone, and the key. Contracts see the row and the key.
+#[derive(Debug, Drop)]
+pub struct ElementRow {
+    pub key: ElementKey,
+    pub row: u64,
+}
+
+impl Model for ElementRow {
+    ghost use Rattle.gc_group.specs.ElementKeys.{key_of};
+    ghost use Rattle.gc_group.specs.Gathered.{KeyedRow};
+
+    ghost Value = { KeyedRow };
+
+    ghost view = { λ r. record { key = key_of r.key; row = r.row } };
+}
+
+/// The groups of rows whose keys are elements alone. It takes those that have a key, in order. Only a group gets a key
+/// with its parts.
+pub fn element_groups(alloc: Global, rows: Vec<ElementRow>) -> Result<Vec<Group>, Memory>
+    ensures { (keys : List (Option Key)) → rows.items ≡ keyed_rows keys → IfOk result (λ groups. AreGroupsOf keys groups.items) }
+{
+    gathered(alloc, &sorted(rows)?)
+}
+
+// These rows by ascending keys; rows of one key stay in their order. Rows that ascend already are left as they are.
+fn sorted(mut rows: Vec<ElementRow>) -> Result<Vec<ElementRow>, Memory>
+    ensures ascend { IfOk result (λ sorted. IsSortedByKey (λ r. r.key) key_order sorted.items) }
+    ensures same { IfOk result (λ sorted. IsPermutation rows.items sorted.items) }
+    ensures stable { IfOk result (λ sorted. IsStableByKey (λ r. r.key) key_order rows.items sorted.items) }
+{
+    rows.sort_by(|a, b| row_cmp(a, b))?;
+    Ok(rows)
+}
+
+// The order of the keys of two rows.
+fn row_cmp(a: &ElementRow, b: &ElementRow) -> Ordering
+    ensures { result ≡ key_order a.now.key b.now.key }
+{
+    element_key_cmp(&a.key, &b.key)
+}
+
+// A group that further rows may join. Contracts see the group.
+#[derive(Drop)]
+struct Begun {
+    key: ElementKey,
+    rows: RowNumbers,
+}
+
+impl Model for Begun {
+    ghost use Rattle.gc_group.specs.ElementKeys.{key_of};
+    ghost use Rattle.gc_group.specs.declared.grouping.Group.{Group};
+
+    ghost Value = { Group };
+
+    ghost view = { λ g. record { key = key_of g.key; rows = g.rows } };
+}
+
+impl Begun {
+    // A row alone as a group.
+    fn of(alloc: Global, row: &ElementRow) -> Result<Begun, Memory>
+        ensures { IfOk result (λ group. group ≡ alone row.now) }
+    {
+        let mut rows = RowNumbers::new(alloc);
+        rows.push(row.row)?;
+        Ok(Begun { key: row.key, rows })
+    }
+
+    // The group, to which no row is added any more.
+    fn finished(self, alloc: Global) -> Group
+        ensures { result ≡ self }
+    {
+        let Begun { key, rows } = self;
+        Group {
+            key: key.to_key(alloc),
+            rows,
+        }
+    }
+}
+
+// The groups of rows that ascend by their keys, so that those of one key stand together.
+fn gathered(alloc: Global, rows: &[ElementRow]) -> Result<Vec<Group>, Memory>
+    requires { IsSortedByKey (λ r. r.key) key_order rows.now }
+    ensures { IfOk result (λ groups. AreGathered rows.now groups.items) }
+{
+    let mut groups = Vec::with_capacity(alloc, number_of_keys(rows))?;
+    let Some((first, rest)) = rows.split_first() else {
+        return Ok(groups);
+    };
+    let mut last = Begun::of(alloc, first)?;
+    for row in rest {
+        if element_key_cmp(&last.key, &row.key).is_eq() {
+            last.rows.push(row.row)?;
+        } else {
+            let done = mem::replace(&mut last, Begun::of(alloc, row)?);
+            groups.push(done.finished(alloc))?;
+        }
+    }
+    groups.push(last.finished(alloc))?;
+    Ok(groups)
+}
+
+// How many keys follow one another in these rows, and one where there is no row. Only room is made by it.
+fn number_of_keys(rows: &[ElementRow]) -> usize {
+    let mut count = 1;
+    for i in 1..rows.len() {
+        if row_cmp(&rows[i - 1], &rows[i]).is_ne() {
+            count += 1;
+        }
+    }
+    count
+}
