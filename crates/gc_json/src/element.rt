@@ -12,7 +12,7 @@ use crate::checking::check_token;
 use crate::finding::opens_object;
 use crate::token_values::read_value;
 use crate::unread::Unread;
-use crate::values::{is_key_among, is_same_key};
+use crate::values::is_key_among;
 use gc_ppg::Kind;
 use json::Reader;
 use serde_json::Value;
@@ -72,18 +72,14 @@ impl Element {
         if !is_key_among(key, keys_of(kind)) {
             self.is_known = false;
         }
-        if is_same_key(key, "id") {
-            self.id = Some(value);
-        } else if is_same_key(key, "from") {
-            self.from = Some(value);
-        } else if is_same_key(key, "to") {
-            self.to = Some(value);
-        } else if is_same_key(key, "labels") {
-            self.labels = Some(value);
-        } else if is_same_key(key, "properties") {
-            self.properties = Some(value);
-        } else if is_same_key(key, "walk") {
-            self.walk = Some(value);
+        match key {
+            "id" => self.id = Some(value),
+            "from" => self.from = Some(value),
+            "to" => self.to = Some(value),
+            "labels" => self.labels = Some(value),
+            "properties" => self.properties = Some(value),
+            "walk" => self.walk = Some(value),
+            _ => drop(value),
         }
     }
 }

@@ -28,7 +28,7 @@ pub(crate) fn is_key_among(key: &str, keys: &[&str]) -> bool
 }
 
 // Whether two keys are one. Most differ in length, which is told at once.
-pub(crate) fn is_same_key(key: &str, other: &str) -> bool
+fn is_same_key(key: &str, other: &str) -> bool
     ensures { result ≡ pointwise nat_eq key.now other.now }
 {
     key.len() == other.len() && key == other
