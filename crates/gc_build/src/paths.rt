@@ -74,7 +74,7 @@ fn key_walk(key: &Key) -> Option<&Walk>
     ensures { option_copied result ≡ key_walk key.now }
 {
     match key.parts.as_slice().first() {
-        Some(Some(Datum::Found(walk))) => Some(walk),
+        Some(Some(Datum::Found(walk))) => Some(walk.get()),
         _ => None,
     }
 }

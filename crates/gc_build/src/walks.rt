@@ -122,7 +122,7 @@ fn walk_in<'a, L: Ledger>(
 {
     match datum {
         Some(Datum::Stored(id)) => stored_walk(making, path, *id, steps),
-        Some(Datum::Found(walk)) => Some(walk),
+        Some(Datum::Found(walk)) => Some(walk.get()),
         _ => None,
     }
 }

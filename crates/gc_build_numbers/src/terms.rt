@@ -11,7 +11,7 @@ use crate::setting::Setting;
 use gc_base::{Duplicate, Memory, Name, Steps, Sym, ValueSet};
 use gc_build_recipe::{Grouping, Term};
 use gc_expr::{Expr, ExprNode};
-use gc_rows::{Datum, RowView};
+use gc_rows::{Counted, Datum, RowView};
 use gc_values::{MadeList, Val, ValList, value};
 use std::alloc::Global;
 use std::marker::Model;
@@ -61,6 +61,7 @@ impl<'a> Reader<'a> {
             (Some(datum), None) => Ok(Some(datum.copy()?)),
             (Some(_), Some(property)) => {
                 let values = literals(setting, property, row, steps)?;
+                let values = Counted::of(setting.alloc, values)?;
                 Ok(Some(Datum::Value(values)))
             }
         }

@@ -47,10 +47,13 @@ fn ends_of(row: &RowView<'_>, path: Sym) -> Option<WalkEnds>
     ensures { result ≡ ends_if (datum_at row.now path) }
 {
     match row.get(path) {
-        Some(Datum::Found(walk)) => Some(WalkEnds {
-            start: walk.start,
-            target: walk.end(),
-        }),
+        Some(Datum::Found(walk)) => {
+            let walk = walk.get();
+            Some(WalkEnds {
+                start: walk.start,
+                target: walk.end(),
+            })
+        }
         _ => None,
     }
 }

@@ -6,6 +6,7 @@ pub mod Finds
 pub mod FreeIds
 pub mod LabelIndexes
 pub mod LabelReads
+pub mod NodeIds
 pub mod NodeSides
 pub mod Runs
 pub mod ShapeTables

@@ -3,7 +3,6 @@ use Rattle.std.proofs.Common.{◌≡◌, ℕ, zero, suc, ◌+◌, ◌<◌, ◌�
 use Rattle.std.specs.Bool.{⊤}
 use Rattle.std.specs.List.{AllByRecursion, AllWithin, filter, slice_get}
 use Rattle.std.specs.List.Sorted.{IsNonDecreasingBy, IsPartitionPoint, IsStableByKey}
-use Rattle.std.specs.Option.{option_and_then}
 use Rattle.std.specs.Ordering.{nat_cmp, is_lt}
 use Rattle.std.proofs.lemmas.Bool.Decides.{nat_tests}
 use Rattle.std.proofs.lemmas.List.{get_or_default}
@@ -107,7 +106,7 @@ tie_is a b = grind (arith, nat_tests)
 -- a stable sort keeps the entries of each key
 pub kept_by_sort : (xs ys : List PlaceAt) → IsStableByKey (λ e. e.key) nat_cmp xs ys → (key : ℕ) → at_key key ys ≡ at_key key xs
 kept_by_sort xs ys stable key =
-    let e : PlaceAt = record { key = key; place = 0; other = 0 } in
+    let e : PlaceAt = record { key = key; place = 0; far = record { edge = 0; node = 0 } } in
     (λ j. filter (λ y. sym (tie_is key y.key) j) ys) ∙ (stable e ∙ (λ j. filter (λ y. tie_is key y.key j) xs))
 
 less_more : (a b k : ℕ) → a ≤ b → nat_lt b k ≡ true → nat_lt a k ≡ true

@@ -72,14 +72,6 @@ struct PathWalk {
     walk: Walk,
 }
 
-impl Element for Id {
-    ghost id_of = { λ i. i };
-
-    fn id(&self) -> Id {
-        *self
-    }
-}
-
 impl Element for EdgeEnds {
     ghost id_of = { λ e. e.id };
 

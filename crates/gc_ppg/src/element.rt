@@ -1,4 +1,7 @@
+ghost use Rattle.std.specs.Prelude.{◌≡◌};
+
 use crate::kind::{Element, Labelled};
+use crate::node_edges::{FarEnd, Side};
 use gc_base::{Duplicate, Id, LabelSet, Memory, Properties, Walk};
 use std::marker::Model;
 
@@ -68,6 +71,23 @@ impl NodeInfo {
 
 impl EdgeInfo {
     ghost use Rattle.gc_ppg.specs.Built.{IsEdgeAlone};
+    ghost use Rattle.gc_ppg.specs.NodeSides.{far_of};
+
+    // The edge as it is seen from the node at a side of which it is.
+    pub(crate) fn far_end(&self, side: Side) -> FarEnd
+        ensures { result ≡ far_of side self.now }
+    {
+        match side {
+            Side::Leaving => FarEnd {
+                edge: self.id,
+                node: self.to,
+            },
+            Side::Coming => FarEnd {
+                edge: self.id,
+                node: self.from,
+            },
+        }
+    }
 
     // What is so of each edge by its type, for a proof.
     pub(crate) fn known(&self)

@@ -1,4 +1,4 @@
-ghost use Rattle.std.specs.Prelude.{◌≡◌, ◌+◌, ◌<◌, ◌≤◌, ◌==◌, length, map, slice_get, Some, IfOk};
+ghost use Rattle.std.specs.Prelude.{◌≡◌, ◌+◌, ◌<◌, ◌≤◌, ◌==◌, length, map, slice_get, Some, is_some, IfOk};
 ghost use Rattle.std.specs.List.{filter};
 ghost use Rattle.std.specs.Option.{option_copied, option_and_then};
 ghost use Rattle.gc_base.specs.Ascending.{has};
@@ -148,6 +148,16 @@ impl Graph {
         ensures step { steps.new ≡ steps.old + handed_out result }
     {
         counted(find(&self.nodes, id), steps)
+    }
+
+    /// Whether there is a node of an identity. It hands out no element.
+    pub fn has_node(&self, id: Id) -> bool
+        ensures { result ≡ is_some (node_at self.now.nodes id) }
+    {
+        match &self.index {
+            Some(index) => find(index.node_ids(), id).is_some(),
+            None => find(&self.nodes, id).is_some(),
+        }
     }
 
     /// The edge of an identity, or `None` exactly where it is not there. An edge takes one step.

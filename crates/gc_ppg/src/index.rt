@@ -1,8 +1,11 @@
 ghost use Rattle.std.specs.Prelude.{◌≡◌, ◌==◌, ℕ, List, IfOk, slice_get};
 ghost use Rattle.std.specs.List.{filter};
 ghost use Rattle.std.specs.Option.{option_and_then};
+ghost use Rattle.gc_spec.specs.PropertyGraph.{node_ids};
 ghost use Rattle.gc_ppg.specs.Indexed.{IsIndex};
 ghost use Rattle.gc_ppg.specs.KeyedPlaces.{AreEnds};
+ghost use Rattle.gc_ppg.specs.NodeSides.{far_of};
+ghost use Rattle.gc_ppg.specs.declared.node_edges.Side.TheVariants.{Leaving, Coming};
 
 use crate::element::{EdgeInfo, NodeInfo, PathInfo};
 use crate::label_index::LabelIndex;
@@ -12,9 +15,10 @@ use crate::shape::Kind;
 use gc_base::{Id, Memory, Name};
 use std::alloc::Global;
 
-// Where the edges at each node and the elements with each label stand in a graph.
+// The identities of the nodes of a graph, and where the edges at each node and the elements with each label stand.
 #[derive(Debug, Drop)]
 pub(crate) struct GraphIndex {
+    node_ids: Vec<Id>,
     leaving: Places,
     coming: Places,
     node_labels: LabelIndex,
@@ -36,18 +40,27 @@ impl GraphIndex {
     ) -> Result<GraphIndex, Memory>
         ensures { IfOk result (IsIndex (record { nodes = nodes.now; edges = edges.now; paths = paths.now })) }
     {
+        let node_ids = ids_of(alloc, nodes)?;
         let leaving = by_source(alloc, edges)?;
         let coming = by_target(alloc, edges)?;
         let node_labels = LabelIndex::of(alloc, nodes)?;
         let edge_labels = LabelIndex::of(alloc, edges)?;
         let path_labels = LabelIndex::of(alloc, paths)?;
         Ok(GraphIndex {
+            node_ids,
             leaving,
             coming,
             node_labels,
             edge_labels,
             path_labels,
         })
+    }
+
+    // The identities of the nodes, ascending.
+    pub(crate) fn node_ids(&self) -> &[Id]
+        ensures { result.now ≡ self.now.node_ids.items }
+    {
+        &self.node_ids
     }
 
     // The place of the i-th edge that leaves a node.
@@ -86,26 +99,39 @@ impl GraphIndex {
     }
 }
 
+// The identities of nodes, one beside the other: to look one up there touches less memory than to look up its node.
+fn ids_of(alloc: Global, nodes: &[NodeInfo]) -> Result<Vec<Id>, Memory>
+    ensures { IfOk result (λ ids. ids.items ≡ node_ids nodes.now) }
+{
+    let mut ids = Vec::with_capacity(alloc, nodes.len())?;
+    for node in nodes {
+        ids.push(node.id)?;
+    }
+    Ok(ids)
+}
+
 // The places of edges by their sources.
 fn by_source(alloc: Global, edges: &[EdgeInfo]) -> Result<Places, Memory>
-    ensures { IfOk result (AreEnds (λ e. e.from) (λ e. e.to) edges.now) }
+    ensures { IfOk result (AreEnds (λ e. e.from) (far_of Leaving) edges.now) }
 {
     let mut places = Vec::with_capacity(alloc, edges.len())?;
     for (place, edge) in edges.iter().enumerate() {
-        let (key, other) = (edge.from.get(), edge.to.get());
-        places.push(PlaceAt { key, place, other })?;
+        let key = edge.from.get();
+        let far = edge.far_end(Side::Leaving);
+        places.push(PlaceAt { key, place, far })?;
     }
     Places::of(places)
 }
 
 // The places of edges by their targets.
 fn by_target(alloc: Global, edges: &[EdgeInfo]) -> Result<Places, Memory>
-    ensures { IfOk result (AreEnds (λ e. e.to) (λ e. e.from) edges.now) }
+    ensures { IfOk result (AreEnds (λ e. e.to) (far_of Coming) edges.now) }
 {
     let mut places = Vec::with_capacity(alloc, edges.len())?;
     for (place, edge) in edges.iter().enumerate() {
-        let (key, other) = (edge.to.get(), edge.from.get());
-        places.push(PlaceAt { key, place, other })?;
+        let key = edge.to.get();
+        let far = edge.far_end(Side::Coming);
+        places.push(PlaceAt { key, place, far })?;
     }
     Places::of(places)
 }

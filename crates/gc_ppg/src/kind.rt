@@ -11,6 +11,14 @@ pub(crate) trait Element {
         ensures { result ≡ id_of self.now };
 }
 
+impl Element for Id {
+    ghost id_of = { λ i. i };
+
+    fn id(&self) -> Id {
+        *self
+    }
+}
+
 /// What has labels: a node, an edge or a stored path.
 pub(crate) trait Labelled: Element {
     /// Its labels.

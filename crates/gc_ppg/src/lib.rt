@@ -23,5 +23,5 @@ pub use coherence::Coherence;
 pub use element::{EdgeInfo, NodeInfo, PathInfo};
 pub use graph::{Graph, GraphList};
 pub use laws::a_graph_that_agrees_is_coherent;
-pub use node_edges::{NodeEdges, Side};
+pub use node_edges::{FarEnd, NodeEdges, Side};
 pub use shape::{Kind, Shape};

@@ -1,7 +1,8 @@
 ghost use Rattle.std.specs.Prelude.{◌≡◌, ◌+◌, ◌≤◌, ◌<◌, ◌==◌, ℕ, IfSome, Some, None, slice_get, if◌then◌else◌};
 ghost use Rattle.std.specs.Option.{option_copied, option_and_then, option_map};
 ghost use Rattle.gc_ppg.specs.KeyedPlaces.{run_at};
-ghost use Rattle.gc_ppg.specs.NodeSides.{ArePlacesAt, edges_at, far_end};
+ghost use Rattle.gc_ppg.specs.NodeSides.{ArePlacesAt, edges_at, far_end, far_of};
+ghost use Rattle.gc_ppg.specs.declared.node_edges.FarEnd.{FarEnd};
 ghost use Rattle.gc_ppg.specs.Reads.{handed_out};
 
 use crate::element::EdgeInfo;
@@ -16,6 +17,13 @@ use std::sync::ledger::Ledger;
 pub enum Side {
     Leaving,
     Coming,
+}
+
+/// An edge as it is seen from a node: its identity, and the node at its other end.
+#[derive(Clone, Copy, Debug)]
+pub struct FarEnd {
+    pub edge: Id,
+    pub node: Id,
 }
 
 /// The edges at a side of a node, by ascending identity. Contracts see the side and the list.
@@ -79,6 +87,28 @@ impl<'a> NodeEdges<'a> {
         counted(self.nth(i), steps)
     }
 
+    /// The i-th edge as it is seen from the node, or `None` exactly where there is none. It takes one step as the
+    /// edge does, which is not read where an index tells of it.
+    pub fn far_end<L: Ledger>(&self, i: usize, steps: &mut Steps<L>) -> Option<FarEnd>
+        ensures end { result ≡ option_map (far_of self.now.side) (slice_get self.now.all i) }
+        ensures step { steps.new ≡ steps.old + handed_out result }
+    {
+        let found = self.nth_end(i);
+        if found.is_some() {
+            steps.tick();
+        }
+        found
+    }
+
+    fn nth_end(&self, i: usize) -> Option<FarEnd>
+        ensures { result ≡ option_map (far_of self.now.side) (slice_get self.now.all i) }
+    {
+        match self.places {
+            Some(places) => end_at(run_at(places, i, self.node)),
+            None => end_of(self.side, nth_at(self.edges, self.side, self.node, i)),
+        }
+    }
+
     fn nth(&self, i: usize) -> Option<&'a EdgeInfo>
         ensures { option_copied result ≡ slice_get self.now.all i }
     {
@@ -131,6 +161,26 @@ fn edge_at(edges: &[EdgeInfo], place: Option<PlaceAt>) -> Option<&EdgeInfo>
     }
 }
 
+// The far end of which a place tells, if there is one.
+fn end_at(place: Option<PlaceAt>) -> Option<FarEnd>
+    ensures { result ≡ option_map (λ p. p.far) place }
+{
+    match place {
+        Some(place) => Some(place.far),
+        None => None,
+    }
+}
+
+// The far end of an edge, if there is one.
+fn end_of(side: Side, edge: Option<&EdgeInfo>) -> Option<FarEnd>
+    ensures { result ≡ option_map (far_of side) (option_copied edge.entry) }
+{
+    match edge {
+        Some(edge) => Some(edge.far_end(side)),
+        None => None,
+    }
+}
+
 // The i-th edge at a side of a node, by going over all.
 fn nth_at(edges: &[EdgeInfo], side: Side, node: Id, i: usize) -> Option<&EdgeInfo>
     ensures { option_copied result ≡ slice_get (edges_at side node edges.now) i }
@@ -144,10 +194,10 @@ fn nth_at(edges: &[EdgeInfo], side: Side, node: Id, i: usize) -> Option<&EdgeInf
 // The first number from one on of a place with another end, or past those of the node.
 fn next_at(places: &[PlaceAt], i: usize, node: Id, other: Id) -> usize
     ensures later { i ≤ result }
-    ensures passed { (k : ℕ) → i ≤ k → k < result → IfSome (run_at node places.now k) (λ p. p.other ≡ other → ⊥) }
+    ensures passed { (k : ℕ) → i ≤ k → k < result → IfSome (run_at node places.now k) (λ p. p.far.node ≡ other → ⊥) }
 {
     let mut at = i;
-    while at < places.len() && places[at].key == node.get() && places[at].other != other.get() {
+    while at < places.len() && places[at].key == node.get() && places[at].far.node != other {
         at += 1;
     }
     at

@@ -4,16 +4,17 @@ ghost use Rattle.std.specs.List.{AllWithin};
 ghost use Rattle.std.specs.List.Sorted.{IsNonDecreasingBy, IsPartitionPoint};
 ghost use Rattle.std.specs.Prelude.{nat_lt};
 
+use crate::node_edges::FarEnd;
 use gc_base::Memory;
 use std::alloc::Global;
 use std::marker::Model;
 
-// A place in the list of edges, by the node at one end of the edge there, with the node at its other end.
+// A place in the list of edges, by the node at one end of the edge there, with the edge as it is seen from there.
 #[derive(Clone, Copy, Debug)]
 pub(crate) struct PlaceAt {
     pub(crate) key: u64,
     pub(crate) place: usize,
-    pub(crate) other: u64,
+    pub(crate) far: FarEnd,
 }
 
 // Places by key. Contracts see the list of both, which ascends by key. Where keys lie close together,

@@ -2,6 +2,7 @@ pub mod AlgebraLaws
 pub mod ArrayLaws
 pub mod AscendingLists
 pub mod ChunkLaws
+pub mod GapLaws
 pub mod JoinLaws
 pub mod KeyLaws
 pub mod LinkLaws

@@ -7,10 +7,11 @@ ghost use Rattle.gc_base.specs.Literals.{literal_order};
 ghost use Rattle.gc_rows.specs.Data.{datum_order, found_order, kind_number, nodes_of};
 ghost use Rattle.gc_rows.specs.DataLaws.{datum_order_total};
 
+use crate::counted::Counted;
 use gc_base::{Duplicate, Id, Memory, Step, ValueSet, Walk, edges_cmp};
 use std::cmp::Ordering;
 
-/// What a variable stands for in a row.
+/// What a variable stands for in a row. Copies share walks and sets of values.
 #[derive(Debug, Drop)]
 pub enum Datum {
     /// A node.
@@ -20,11 +21,11 @@ pub enum Datum {
     /// A stored path.
     Stored(Id),
     /// A walk that a search found.
-    Found(Walk),
+    Found(Counted<Walk>),
     /// All walks between two nodes.
     Span { from: Id, to: Id },
     /// The values of a property, or a single value.
-    Value(ValueSet),
+    Value(Counted<ValueSet>),
     /// A cost that is above the largest number.
     PastRange,
 }
@@ -100,11 +101,11 @@ impl Ord for Datum {
             (Datum::Node(a), Datum::Node(b)) => a.cmp(b),
             (Datum::Edge(a), Datum::Edge(b)) => a.cmp(b),
             (Datum::Stored(a), Datum::Stored(b)) => a.cmp(b),
-            (Datum::Found(a), Datum::Found(b)) => found_cmp(a, b),
+            (Datum::Found(a), Datum::Found(b)) => found_cmp(a.get(), b.get()),
             (Datum::Span { from: a, to: b }, Datum::Span { from: c, to: d }) => {
                 a.cmp(c).then(b.cmp(d))
             }
-            (Datum::Value(a), Datum::Value(b)) => a.as_slice().cmp(b.as_slice()),
+            (Datum::Value(a), Datum::Value(b)) => a.get().as_slice().cmp(b.get().as_slice()),
             _ => self.kind_number().cmp(&other.kind_number()),
         }
     }

@@ -5,6 +5,7 @@
 
 mod array_row;
 mod cells;
+mod counted;
 mod datum;
 mod joins;
 mod keys;
@@ -22,6 +23,7 @@ mod tests;
 mod variables;
 mod view;
 
+pub use counted::Counted;
 pub use datum::Datum;
 pub use joins::{join, outer};
 pub use laws::{

@@ -10,6 +10,7 @@ use crate::datum::Datum;
 use crate::variables::is_listed;
 use gc_base::{Duplicate, Memory, Sequence, Sym};
 use std::alloc::Global;
+use std::cmp::Ordering;
 use std::marker::Model;
 use std::mem::{drop, replace};
 
@@ -122,8 +123,35 @@ impl Row {
         Ok(Row { bindings })
     }
 
-    // Where the variable is bound, or would be.
+    // Where the variable is bound, or would be. The bindings of a short row are gone over, which takes less than to
+    // halve them.
     fn search(&self, var: Sym) -> Result<usize, usize>
+        ensures { IsPlaceOrGap (λ b. nat_cmp b.var.0 var.0) self.now result }
+    {
+        if self.bindings.len() <= 8 {
+            self.gone_over(var)
+        } else {
+            self.halved(var)
+        }
+    }
+
+    // The same, by going over the bindings.
+    fn gone_over(&self, var: Sym) -> Result<usize, usize>
+        ensures { IsPlaceOrGap (λ b. nat_cmp b.var.0 var.0) self.now result }
+    {
+        let bindings = self.bindings();
+        for (place, binding) in bindings.iter().enumerate() {
+            match binding.var.0.cmp(&var.0) {
+                Ordering::Less => {}
+                Ordering::Equal => return Ok(place),
+                Ordering::Greater => return Err(place),
+            }
+        }
+        Err(bindings.len())
+    }
+
+    // The same, by halving.
+    fn halved(&self, var: Sym) -> Result<usize, usize>
         ensures { IsPlaceOrGap (λ b. nat_cmp b.var.0 var.0) self.now result }
     {
         self.bindings

@@ -22,7 +22,7 @@ pub(crate) fn walk_of<'a, L: Ledger>(
     ensures { option_copied result ≡ walk_of context.now path }
 {
     match context.datum_of(path) {
-        Some(Datum::Found(walk)) => Some(walk),
+        Some(Datum::Found(walk)) => Some(walk.get()),
         Some(Datum::Stored(id)) => stored_walk(context.own_graph(path), *id, steps),
         _ => None,
     }

@@ -164,7 +164,7 @@ fn datum_value(alloc: Global, datum: Option<&Datum>) -> Result<Val, Memory>
         Some(Datum::Stored(id)) => Ok(Val::Element(*id)),
         Some(Datum::Found(_)) => Ok(Val::Walked),
         Some(Datum::Span { from: _, to: _ }) => Ok(Val::Walked),
-        Some(Datum::Value(values)) => Ok(Val::Set(values.copy()?)),
+        Some(Datum::Value(values)) => Ok(Val::Set(values.get().copy()?)),
         Some(Datum::PastRange) => Ok(Val::Undefined(Why::Overflow)),
     }
 }

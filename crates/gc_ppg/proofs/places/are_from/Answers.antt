@@ -4,4 +4,4 @@ use Rattle.gc_ppg.proofs.places.are_from.Goals as goal
 
 pub returns-else-place-entries : goal.returns-else-place-entries
 returns-else-place-entries c told =
-    above_from c.args.entries.now c.args.place c.args.key (record { key = 0; place = 0; other = 0 }) c.requires.ascend (omega (arith, c.if-place-entries.false, c.requires.within)) told
+    above_from c.args.entries.now c.args.place c.args.key c.index-entries-place.result c.requires.ascend (omega (arith, c.if-place-entries.false, c.requires.within)) told

@@ -5,7 +5,7 @@ use Rattle.std.proofs.lemmas.Fn.{always_returns_same}
 use Rattle.gc_base.specs.Places.{IsPlaceOrGap}
 use Rattle.gc_base.proofs.Search.{searched}
 use Rattle.gc_rows.specs.Rows.{IsRow}
-use Rattle.gc_rows.proofs.row.Row.search.Goals as goal
+use Rattle.gc_rows.proofs.row.Row.halved.Goals as goal
 
 pub returns : goal.returns
 returns c =
