@@ -5,6 +5,8 @@ use Rattle.gc_spec.specs.PropertyGraph.{Edge, PropertyGraph}
 use Rattle.gc_ppg.proofs.EndPlaces.{read_at}
 use Rattle.gc_ppg.proofs.LabelReads.{index_of}
 use Rattle.gc_ppg.proofs.graph.Graph.nth_out.Goals as goal
+use Rattle.gc_ppg.specs.NodeSides.{far_of}
+use Rattle.gc_ppg.specs.declared.node_edges.Side.TheVariants.{Leaving}
 
 pub returns-in-Some : goal.returns-in-Some
 returns-in-Some c =
@@ -12,7 +14,7 @@ returns-in-Some c =
     let index = c.in-Some.index in
     let is_index = index_of _ g c.self.inside.index index c.self.invariant.1 c.in-Some.is c.self.view_is in
     c.edge_at.ensures
-    ∙ (ap (option_and_then (slice_get g.edges)) c.leaving.ensures ∙ read_at (λ e. e.from) (λ e. e.to) c.args.node g.edges index.leaving c.args.i is_index.leaving)
+    ∙ (ap (option_and_then (slice_get g.edges)) c.leaving.ensures ∙ read_at (λ e. e.from) (far_of Leaving) c.args.node g.edges index.leaving c.args.i is_index.leaving)
 
 pub returns-in-None : goal.returns-in-None
 returns-in-None c =
