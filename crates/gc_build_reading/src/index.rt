@@ -151,7 +151,12 @@ impl<'a> Index<'a> {
         copies: &[CopyOf],
     ) -> Result<Index<'a>, Memory>
         ensures { IfOk result (λ index. makings_in index
-            ≡ record { is_bound = lists bound.now; is_found = is_found_in (scope naming.now) block.0; terms = own_terms terms; copied = copied_by copies.now }) }
+            ≡ record {
+              is_bound = lists bound.now;
+              is_found = is_found_in (scope naming.now) block.0;
+              terms = own_terms terms;
+              copied = copied_by copies.now;
+            }) }
     {
         let bound = Vars::of(alloc, bound)?;
         let terms = Terms::of(alloc, terms)?;

@@ -35,7 +35,7 @@ use Rattle.gc_sorts.specs.Variables.{Use, first_sort, has_use, use_names}
 use Rattle.gc_lower.specs.Blocks as lower
 use Rattle.gc_lower.specs.Blocks.{block_of, optional_parts, optional_reads, part_of}
 use Rattle.gc_lower.specs.Reads.{reads_of}
-use Rattle.gc_lower.specs.Scopes.{Scope, variable_of, variable_or}
+use Rattle.gc_lower.specs.Scopes.{Scope, variable_or}
 use Rattle.gc_query.specs.Built.{IsNumbered}
 use Rattle.gc_query.proofs.MakeLinks.{IsKnown, items_linked}
 use Rattle.gc_query.proofs.MakeSites.{Site, site_variable, sites_of}
