@@ -6,7 +6,8 @@ use Rattle.indexmap.specs.IndexMap.{get}
 use Rattle.indexmap.specs.IndexSet.{contains}
 use Rattle.gc_base.specs.declared.place.Sym.{Sym}
 use Rattle.gc_build_recipe.specs.declared.variable.Term.{Term}
-use Rattle.gc_build_reading.specs.Variables.{Makings}
+use Rattle.gc_build_reading.specs.Namings.{scope}
+use Rattle.gc_build_reading.specs.Variables.{Makings, is_found_in}
 use Rattle.gc_build_reading.specs.declared.index.Copies.{Copies}
 use Rattle.gc_build_reading.specs.declared.index.Index.{Index}
 use Rattle.gc_build_reading.specs.declared.index.Terms.{Terms}
@@ -30,4 +31,9 @@ abbrev pub copied_in : Copies → Sym → Option Sym
 copied_in copies x = get nat_eq copies.copied x.0
 
 abbrev pub makings_in : Index → Makings
-makings_in i = record { is_bound = has i.bound; is_found = has i.found; terms = terms_in i.terms; copied = copied_in i.copies }
+makings_in i = record {
+  is_bound = has i.bound;
+  is_found = is_found_in (scope i.naming.now) i.block.0;
+  terms = terms_in i.terms;
+  copied = copied_in i.copies;
+}

@@ -1,4 +1,3 @@
-pub mod FoundPaths
 pub mod Indexes
 pub mod Items
 pub mod Namings

@@ -1,5 +1,5 @@
 -- What a CONSTRUCT of a checked file asks for.
-use Rattle.std.specs.Prelude.{List}
+use Rattle.std.specs.Prelude.{ℕ, List}
 use Rattle.gc_base.specs.declared.place.Sym.{Sym}
 use Rattle.gc_ast.specs.Trees as tree
 use Rattle.gc_ast.specs.Trees.{Tree, RowOf, ABasic, AnItem}
@@ -9,21 +9,21 @@ use Rattle.gc_build_recipe.specs.Recipes.{Recipe}
 use Rattle.gc_lower.specs.Scopes.{Scope}
 use Rattle.gc_build_reading.specs.Items.{item_labels, item_assignments, item_lost_labels, item_lost_properties, item_terms, item_copies, item_chains, item_graphs}
 use Rattle.gc_build_reading.specs.Places.{places_of}
-use Rattle.gc_build_reading.specs.Variables.{Makings, copied_by, first_places, own_terms, variables_at}
+use Rattle.gc_build_reading.specs.Variables.{Makings, copied_by, first_places, is_found_in, match_at, own_terms, variables_at}
 
--- what items say of the making of variables, where the MATCH binds these, and its found path patterns those
-abbrev pub makings_of : Scope → (bound found : List Sym) → Tree (RowOf AnItem) → Makings
-makings_of s bound found items = record {
+-- what items say of the making of variables, where the MATCH binds these, and is the block of this number
+abbrev pub makings_of : Scope → (bound : List Sym) → (block : ℕ) → Tree (RowOf AnItem) → Makings
+makings_of s bound block items = record {
   is_bound = lists bound;
-  is_found = lists found;
+  is_found = is_found_in s block;
   terms = own_terms (all_of (item_terms s) items);
   copied = copied_by (all_of (item_copies s) items);
 }
 
 -- the recipe of items
-abbrev pub recipe_by : Scope → (bound found : List Sym) → Tree (RowOf AnItem) → Recipe
-recipe_by s bound found items = record {
-  variables = variables_at (makings_of s bound found items) (first_places (places_of s items));
+abbrev pub recipe_by : Scope → (bound : List Sym) → (block : ℕ) → Tree (RowOf AnItem) → Recipe
+recipe_by s bound block items = record {
+  variables = variables_at (makings_of s bound block items) (first_places (places_of s items));
   labels = all_of (item_labels s) items;
   assignments = all_of (item_assignments s) items;
   lost_labels = all_of (item_lost_labels s) items;
@@ -32,6 +32,6 @@ recipe_by s bound found items = record {
   graphs = all_of (item_graphs s) items;
 }
 
--- the recipe of a CONSTRUCT, where its MATCH binds these variables, and its found path patterns those
-abbrev pub recipe_of : Scope → (bound found : List Sym) → Tree ABasic → Recipe
-recipe_of s bound found (tree.Basic token items main optionals) = recipe_by s bound found items
+-- the recipe of a CONSTRUCT, where its MATCH binds these variables
+abbrev pub recipe_of : Scope → (bound : List Sym) → Tree ABasic → Recipe
+recipe_of s bound (tree.Basic token items main optionals) = recipe_by s bound (match_at s token) items

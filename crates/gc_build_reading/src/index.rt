@@ -2,10 +2,12 @@ ghost use Rattle.std.specs.Prelude.{◌≡◌, ◌++◌, ◌||◌, ◌==◌, ◌
 ghost use Rattle.gc_base.specs.declared.place.Sym.{Sym as Variable};
 ghost use Rattle.gc_rows.specs.Rows.{lists};
 ghost use Rattle.gc_build_reading.specs.Indexes.{copied_in, has, makings_in, terms_in};
-ghost use Rattle.gc_build_reading.specs.Variables.{copied_by, own_terms};
+ghost use Rattle.gc_build_reading.specs.Namings.{scope};
+ghost use Rattle.gc_build_reading.specs.Variables.{copied_by, is_found_in, own_terms};
 
+use crate::naming::Naming;
 use crate::terms::{CopyOf, TermOf, TermOfList};
-use gc_base::{Memory, Sym};
+use gc_base::{BlockNo, Memory, Sym};
 use gc_build_recipe::{Term, TermList};
 use indexmap::{IndexMap, IndexSet};
 use std::alloc::Global;
@@ -129,33 +131,40 @@ impl Copies {
 
 /// What is said of the making of each variable.
 #[derive(Drop)]
-pub(crate) struct Index {
+pub(crate) struct Index<'a> {
+    pub naming: &'a Naming<'a>,
+    pub block: BlockNo,
     pub bound: Vars,
-    pub found: Vars,
     pub terms: Terms,
     pub copies: Copies,
 }
 
-impl Index {
-    /// Of the variables that the MATCH binds, those of them that found path patterns bind, the GROUP
-    /// terms and the copies.
+impl<'a> Index<'a> {
+    /// Of the MATCH, which is the block of a number, and the variables that it binds; the GROUP terms and
+    /// the copies.
     pub(crate) fn of(
         alloc: Global,
+        naming: &'a Naming<'a>,
+        block: BlockNo,
         bound: &[Sym],
-        found: &[Sym],
         terms: TermOfList,
         copies: &[CopyOf],
-    ) -> Result<Index, Memory>
+    ) -> Result<Index<'a>, Memory>
         ensures { IfOk result (λ index. makings_in index
-            ≡ record { is_bound = lists bound.now; is_found = lists found.now; terms = own_terms terms; copied = copied_by copies.now }) }
+            ≡ record {
+              is_bound = lists bound.now;
+              is_found = is_found_in (scope naming.now) block.0;
+              terms = own_terms terms;
+              copied = copied_by copies.now;
+            }) }
     {
         let bound = Vars::of(alloc, bound)?;
-        let found = Vars::of(alloc, found)?;
         let terms = Terms::of(alloc, terms)?;
         let copies = Copies::of(alloc, copies)?;
         Ok(Index {
+            naming,
+            block,
             bound,
-            found,
             terms,
             copies,
         })

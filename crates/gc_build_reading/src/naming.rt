@@ -1,9 +1,9 @@
 ghost use Rattle.std.specs.Prelude.{◌≡◌, Some};
 
 use gc_ast::NewElement;
-use gc_base::{NameAt, Sym};
+use gc_base::{BlockNo, NameAt, Sym};
 use gc_lower::variable;
-use gc_sorts::Checked;
+use gc_sorts::{Checked, Sort};
 
 /// What the names and the tokens of a checked file stand for.
 #[derive(Drop)]
@@ -19,6 +19,7 @@ impl Naming<'_> {
     ghost use Rattle.gc_ast.specs.QueryViews.{new_element_tree};
     ghost use Rattle.gc_build_reading.specs.Places.{element_variable};
     ghost use Rattle.gc_build_reading.specs.Namings.{names_of, scope, variable_in};
+    ghost use Rattle.gc_build_reading.specs.Variables.{is_found_in, match_at};
 
     // The hidden variable of the unnamed element at a token.
     fn hidden(&self, token: u32) -> Sym
@@ -35,6 +36,20 @@ impl Naming<'_> {
         ensures { result ≡ graph_of (scope self.now) (Some (named_by (name_of (names_of self.now)) name)) }
     {
         self.checked.graph_at(name.token).unwrap_or(0)
+    }
+
+    /// The block of the MATCH whose CONSTRUCT stands at a token.
+    pub(crate) fn match_at(&self, token: u32) -> BlockNo
+        ensures { result.0 ≡ match_at (scope self.now) token }
+    {
+        self.checked.block_at(token).unwrap_or(BlockNo(0))
+    }
+
+    /// Whether a variable of the block of a MATCH stands for a walk that is looked for.
+    pub(crate) fn is_found(&self, block: BlockNo, var: Sym) -> bool
+        ensures { result ≡ is_found_in (scope self.now) block.0 var }
+    {
+        self.checked.sort(block, var) == Some(Sort::Found)
     }
 
     /// The variable of a name of the file, by its number.

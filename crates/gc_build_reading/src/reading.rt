@@ -15,38 +15,45 @@ use crate::placing::{first_places, places_of};
 use crate::told::Told;
 use crate::varying::variables;
 use gc_ast::{Basic, ItemList};
-use gc_base::{Memory, Sym};
+use gc_base::{BlockNo, Memory, Sym};
 use gc_build_recipe::{Recipe, VariableList};
 use gc_sorts::Checked;
 use std::alloc::Global;
 
-/// What a CONSTRUCT of a checked file asks for, where its MATCH binds the `bound` variables, and its
-/// found path patterns those of them that are `found`. Nothing but want of memory is refused.
+/// What a CONSTRUCT of a checked file asks for, where its MATCH binds the `bound` variables. Nothing but
+/// want of memory is refused.
 pub fn recipe(
     alloc: Global,
     checked: &Checked,
     basic: &Basic,
     bound: &[Sym],
-    found: &[Sym],
 ) -> Result<Recipe, Memory>
-    ensures { IfOk result (λ r. r ≡ recipe_of (scope_of checked.now 0) bound.now found.now (basic_tree checked.now.file.names basic.now)) }
+    ensures { IfOk result (λ r. r ≡ recipe_of (scope_of checked.now 0) bound.now (basic_tree checked.now.file.names basic.now)) }
 {
     let naming = Naming { checked };
-    recipe_by(alloc, &naming, bound, found, &basic.items)
+    let block = naming.match_at(basic.token);
+    recipe_by(alloc, &naming, bound, block, &basic.items)
 }
 
-// The recipe of items.
+// The recipe of items, where the MATCH is the block of a number.
 fn recipe_by(
     alloc: Global,
     naming: &Naming<'_>,
     bound: &[Sym],
-    found: &[Sym],
+    block: BlockNo,
     items: &ItemList,
 ) -> Result<Recipe, Memory>
-    ensures { IfOk result (λ r. r ≡ recipe_by (scope naming.now) bound.now found.now (row (map (item_tree (names_of naming.now)) items.now.items))) }
+    ensures { IfOk result (λ r. r ≡ recipe_by (scope naming.now) bound.now block.0 (row (map (item_tree (names_of naming.now)) items.now.items))) }
 {
     let told = Told::of(alloc, naming, items)?;
-    let index = Index::of(alloc, bound, found, told.terms, told.copies.as_slice())?;
+    let index = Index::of(
+        alloc,
+        naming,
+        block,
+        bound,
+        told.terms,
+        told.copies.as_slice(),
+    )?;
     let variables = variables_of(alloc, naming, &index, items)?;
     let chains = chains_of(alloc, naming, items)?;
     let graphs = graphs_of(alloc, naming, items)?;
@@ -65,7 +72,7 @@ fn recipe_by(
 fn variables_of(
     alloc: Global,
     naming: &Naming<'_>,
-    index: &Index,
+    index: &Index<'_>,
     items: &ItemList,
 ) -> Result<VariableList, Memory>
     ensures { IfOk result (λ variables. variables

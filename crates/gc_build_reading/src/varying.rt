@@ -12,7 +12,7 @@ use std::alloc::Global;
 /// The variables of places: nodes, then edges, then paths, each kind in the order of the places.
 pub(crate) fn variables(
     alloc: Global,
-    index: &Index,
+    index: &Index<'_>,
     firsts: &[Place],
 ) -> Result<VariableList, Memory>
     ensures { IfOk result (λ variables. variables ≡ variables_at (makings_in index.now) firsts.now) }
@@ -28,7 +28,7 @@ pub(crate) fn variables(
 fn add_kind(
     alloc: Global,
     variables: &mut VariableList,
-    index: &Index,
+    index: &Index<'_>,
     kind: Kind,
     firsts: &[Place],
 ) -> Result<(), Memory>
@@ -54,7 +54,7 @@ fn is_of(kind: Kind, other: Kind) -> bool
 }
 
 // The variable of a place.
-fn variable_at(alloc: Global, index: &Index, place: Place) -> Result<Variable, Memory>
+fn variable_at(alloc: Global, index: &Index<'_>, place: Place) -> Result<Variable, Memory>
     ensures { IfOk result (λ v. v ≡ variable_at (makings_in index.now) place) }
 {
     let grouping = grouping_of(alloc, index, place)?;
@@ -67,7 +67,7 @@ fn variable_at(alloc: Global, index: &Index, place: Place) -> Result<Variable, M
 }
 
 // With whose labels and properties a variable starts.
-fn start_of(index: &Index, var: Sym) -> Option<Sym>
+fn start_of(index: &Index<'_>, var: Sym) -> Option<Sym>
     ensures { result ≡ start_of (makings_in index.now) var }
 {
     if index.bound.has(var) {
@@ -78,11 +78,12 @@ fn start_of(index: &Index, var: Sym) -> Option<Sym>
 }
 
 // By what rows are grouped for the variable of a place.
-fn grouping_of(alloc: Global, index: &Index, place: Place) -> Result<Grouping, Memory>
+fn grouping_of(alloc: Global, index: &Index<'_>, place: Place) -> Result<Grouping, Memory>
     ensures { IfOk result (λ g. g ≡ grouping_of (makings_in index.now) place) }
 {
     if index.bound.has(place.var) {
-        return Ok(bound_grouping(index.found.has(place.var)));
+        let is_found = index.naming.is_found(index.block, place.var);
+        return Ok(bound_grouping(is_found));
     }
     let terms = all_terms(alloc, index, place.var)?;
     Ok(new_grouping(place.ends, terms))
@@ -124,7 +125,7 @@ fn by_terms(terms: TermList) -> Grouping
 }
 
 // The terms by which rows are grouped for a variable, of which the one that it copies is the last.
-fn all_terms(alloc: Global, index: &Index, var: Sym) -> Result<TermList, Memory>
+fn all_terms(alloc: Global, index: &Index<'_>, var: Sym) -> Result<TermList, Memory>
     ensures { IfOk result (λ terms. terms ≡ all_terms (makings_in index.now) var) }
 {
     let mut terms = copied(alloc, index.terms.of_variable(var))?;

@@ -1,6 +1,7 @@
 -- What a CONSTRUCT asks for has the links of the block of its MATCH, where it breaks no rule.
 use Rattle.std.proofs.Common.{◌≡◌, ◌⊎◌, inl, inr, ⊎_elim, ℕ, ◌==◌, Bool, true, false, cond, List, [], ◌∷◌, ◌++◌, fold, Option, Some, None, refl, sym, ap, ◌∙◌, subst, arith}
 use Rattle.std.specs.List.{AllByRecursion, Contains, flat_map}
+use Rattle.std.specs.Option.{unwrap_or}
 use Rattle.std.proofs.lemmas.Bool.{eq-eqb, eqb-true}
 use Rattle.std.proofs.lemmas.List.Elements.{Contains-append_left, Contains-append_right, Contains-append_cases}
 use Rattle.std.proofs.lemmas.Grind.{flat_map-append}
@@ -18,31 +19,32 @@ use Rattle.gc_alg.specs.declared.atom.AtomWhat.{AtomWhat}
 use Rattle.gc_alg.specs.declared.atom.AtomWhat.TheVariants as atom
 use Rattle.gc_build.proofs.ClaimEnds.{any_member, member_any}
 use Rattle.gc_build.specs.Linked.{HasLinksOf, IsReadThere}
-use Rattle.gc_build_reading.specs.FoundPaths.{found_by, found_variables}
 use Rattle.gc_build_reading.specs.Recipes.{makings_of, recipe_by, recipe_of}
-use Rattle.gc_build_reading.specs.Variables.{Makings}
+use Rattle.gc_build_reading.specs.Variables.{Makings, is_found_sort, match_at}
 use Rattle.gc_rows.proofs.Members.{cons_cases, contains_here, contains_later, from_flat_map, from_map, of_member, to_flat_map, to_map}
 use Rattle.gc_rows.specs.Algebra.{joined_schema}
 use Rattle.gc_rows.specs.Rows.{lists, with_variable}
 use Rattle.gc_values.specs.declared.reads.ReadUse.{ReadUse}
+use Rattle.gc_sorts.specs.Blocks.{MatchBlock, places_in, sort_in}
 use Rattle.gc_sorts.specs.Breaches.{Breaches}
 use Rattle.gc_sorts.specs.Constructs.{Making, item_made, item_stored, making}
 use Rattle.gc_sorts.specs.Matches.{each_use, place_breaches}
 use Rattle.gc_sorts.specs.SortRules.{construct_breaches, made_by, match_breaches, match_links, match_uses}
 use Rattle.gc_sorts.specs.Uses.{all_of, block_uses, located_uses, optional_uses, pattern_uses}
-use Rattle.gc_sorts.specs.Variables.{Use, has_use, use_names}
+use Rattle.gc_sorts.specs.Variables.{Use, first_sort, has_use, use_names}
 use Rattle.gc_lower.specs.Blocks as lower
 use Rattle.gc_lower.specs.Blocks.{block_of, optional_parts, optional_reads, part_of}
 use Rattle.gc_lower.specs.Reads.{reads_of}
-use Rattle.gc_lower.specs.Scopes.{Scope, variable_of, variable_or}
+use Rattle.gc_lower.specs.Scopes.{Scope, variable_or}
+use Rattle.gc_query.specs.Built.{IsNumbered}
 use Rattle.gc_query.proofs.MakeLinks.{IsKnown, items_linked}
 use Rattle.gc_query.proofs.MakeSites.{Site, site_variable, sites_of}
 use Rattle.gc_query.proofs.MakeSorts.{SiteFits, items_fit, items_store}
 use Rattle.gc_query.proofs.MatchLinks.{there_used}
 use Rattle.gc_query.proofs.MatchParts.{AreAmong, AreApart, MatchLink, OptionalsAmong, block_places, block_tokens, match_link, place_used}
 use Rattle.gc_query.proofs.MatchPlaces.{AtomStands, PlaceOn, StandsOn, atoms_stand, located_places, named_on, place_on, stands_wider, unnamed_on, unnamed_token}
-use Rattle.gc_query.proofs.MatchReads.{AtomWalks, IsWalkPlace, ReadStands, WalkStands, all_read, atoms_walk, reads_stand, walks_wider}
-use Rattle.gc_query.proofs.MatchSorts.{is_walk_role, sort_same, walk_alone}
+use Rattle.gc_query.proofs.MatchReads.{AtomWalks, ReadStands, all_read, atoms_walk, reads_stand, walks_wider}
+use Rattle.gc_query.proofs.MatchSorts.{found_use, is_walk_role, sort_same, walk_alone}
 use Rattle.gc_query.proofs.SearchedAtoms.{IsUnbroken}
 
 -- the places and the tokens of OPTIONAL blocks
@@ -156,15 +158,6 @@ bound_to block a x m k =
     let own = flat_map (λ (b : Atom). own_variables b.what) atoms in
     let all = flat_map (λ (b : Atom). variables_of b.what) atoms in
     joined_listed [] (block_variables block) x ∙ once_to [] (own ++ all) x (Contains-append_right own all x (to_flat_map (λ (b : Atom). variables_of b.what) atoms a x m k))
-
-found_from : (what : AtomWhat) (z : Sym) → Contains (found_by what) z → (s : Scope) (places : List PlaceOn) (graph : ℕ) → WalkStands s places graph what → IsWalkPlace s places graph z
-found_from (atom.Node x labels) z m s places graph h = absurd (omega (arith, m.1))
-found_from (atom.Edge x e y way labels) z m s places graph h = absurd (omega (arith, m.1))
-found_from (atom.Property x kind name v) z m s places graph h = absurd (omega (arith, m.1))
-found_from (atom.Stored x p y labels) z m s places graph h = absurd (omega (arith, m.1))
-found_from (atom.Reach x y regex views) z m s places graph h = absurd (omega (arith, m.1))
-found_from (atom.Found x p y k cost regex views) z m s places graph h = ⊎_elim (λ i. subst (IsWalkPlace s places graph) i h) (λ r. absurd (omega (arith, r.1))) (cons_cases p [] z m)
-found_from (atom.All x p y regex views) z m s places graph h = absurd (omega (arith, m.1))
 
 -- places with their graphs are those of uses
 module _ (s : Scope) where
@@ -284,12 +277,6 @@ module _ (s : Scope) (graphs : List (List ℕ)) (items : Tree (RowOf AnItem)) (m
 
   abbrev bound : List Sym
   bound = bound_variables block
-
-  abbrev found : List Sym
-  found = found_variables block
-
-  abbrev mk : Makings
-  mk = makings_of s bound found items
 
   -- what is among the names and the tokens
   pub use_name : (u : Use) → Contains uses u → Contains names u.name
@@ -432,35 +419,39 @@ module _ (s : Scope) (graphs : List (List ℕ)) (items : Tree (RowOf AnItem)) (m
           (x, e, subst (λ n. has_use uses n ≡ true) (sym same) (there_used uses u (place_use _ u i)))
       by (Some x) e (unnamed_on t i is) = absurd (distinct.apart.mixed_apart x.name t (site_name a k x e) (match_token t i) (sym (ap (variable_or s a.token) e) ∙ is))
 
-  known : IsKnown s uses (match_links [] main optionals) block mk names
-  known = record {
-    sorts = λ u k f h. sort_same uses one_use unbroken_place u k f h;
-    patterns = λ l k n x y lx ly.
-        subst (λ (ps : List (alg.Tree alg.APart)). MatchLink s ps uses l x y) (sym (items_row parts))
-        (match_link s names tokens distinct.apart main optionals main_among others_among matched.0 l n k x y lx ly);
-    bound = λ a k z i. bound_to block a z k i;
-    found = λ z h. found_at z h;
-    used = use_name;
-  }
-    where
-      found_at : (z : Sym) → lists found z ≡ true → (w : Use) × Contains uses w × (is_walk_role w.role ≡ true) × (z ≡ variable_of s w.name)
-      found_at z h =
-          let at = from_flat_map (λ (a : Atom). found_by a.what) (block_atoms block) z (listed_member found z h) in
-          let walk = of_member (AtomWalks s places) atoms at.0 all_walk (subst (λ es. Contains es at.0) atoms_are at.1) in
-          let place = found_from at.0.what z at.2 s places at.0.graph walk in
-          (place.at_place, place_use at.0.graph place.at_place place.among, place.walk, place.is)
+  -- the block of the MATCH is found by the token of its CONSTRUCT
+  module _ (token : ℕ) (numbered : IsNumbered s (MatchBlock (tree.Basic token items main optionals))) where
+    abbrev number : ℕ
+    number = match_at s token
 
-  pub has_links : HasLinksOf block reads (recipe_by s bound found items)
-  has_links = record {
-    linked = items_linked s items m (match_links [] main optionals) block mk names tokens distinct.apart site_fits (λ n k. items_store s graphs m items made.0 n k) site_name unnamed_site stored_name
-        distinct.sites distinct.named_sites known bound_site (recipe_by s bound found items) refl items (λ a k. k) (λ q k. k) (λ n k. k) made.1;
-    read = walks_read;
-  }
+    abbrev mk : Makings
+    mk = makings_of s bound number items
 
--- a CONSTRUCT that breaks no rule has the links of its MATCH
+    -- so the sort of a name is that of its first place
+    sort_is : (n : List ℕ) → sort_in s.blocks number n ≡ first_sort uses n
+    sort_is n = ap (λ at. sort_in s.blocks (unwrap_or at 0) n) numbered.at ∙ ap (λ placed. first_sort (places_in placed) n) numbered.there
+
+    known : IsKnown s uses (match_links [] main optionals) block mk names
+    known = record {
+      sorts = λ u k f h. sort_same uses one_use unbroken_place u k f h;
+      patterns = λ l k n x y lx ly.
+          subst (λ (ps : List (alg.Tree alg.APart)). MatchLink s ps uses l x y) (sym (items_row parts))
+          (match_link s names tokens distinct.apart main optionals main_among others_among matched.0 l n k x y lx ly);
+      bound = λ a k z i. bound_to block a z k i;
+      found = λ n k h. found_use uses n (sym (ap is_found_sort (ap (sort_in s.blocks number) (distinct.apart.named n k) ∙ sort_is n)) ∙ h);
+    }
+
+    pub has_links : HasLinksOf block reads (recipe_by s bound number items)
+    has_links = record {
+      linked = items_linked s items m (match_links [] main optionals) block mk names tokens distinct.apart site_fits (λ n k. items_store s graphs m items made.0 n k) site_name unnamed_site stored_name
+          distinct.sites distinct.named_sites known bound_site (recipe_by s bound number items) refl items (λ a k. k) (λ q k. k) (λ n k. k) made.1;
+      read = walks_read;
+    }
+
+-- a CONSTRUCT that breaks no rule, and whose MATCH is found by its token, has the links of its MATCH
 pub basic_links : (s : Scope) (graphs : List (List ℕ)) (token : ℕ) (items : Tree (RowOf AnItem)) (main : Tree ABlock) (optionals : Tree (RowOf AnOptional)) → IsDistinctBasic s items main optionals
-    → IsUnbroken (match_breaches [] main optionals) → IsUnbroken (construct_breaches graphs [] items main optionals)
+    → IsUnbroken (match_breaches [] main optionals) → IsUnbroken (construct_breaches graphs [] items main optionals) → IsNumbered s (MatchBlock (tree.Basic token items main optionals))
     → HasLinksOf (block_of s [] (tree.Basic token items main optionals)) (alg.reads_of (block_of s [] (tree.Basic token items main optionals)))
-    (recipe_of s (bound_variables (block_of s [] (tree.Basic token items main optionals))) (found_variables (block_of s [] (tree.Basic token items main optionals))) (tree.Basic token items main optionals))
+    (recipe_of s (bound_variables (block_of s [] (tree.Basic token items main optionals))) (tree.Basic token items main optionals))
 unfolding block_of
-basic_links s graphs token items main optionals distinct matched made = has_links s graphs items main optionals distinct matched made
+basic_links s graphs token items main optionals distinct matched made numbered = has_links s graphs items main optionals distinct matched made token numbered

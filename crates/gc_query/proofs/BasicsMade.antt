@@ -24,7 +24,6 @@ use Rattle.gc_build.specs.declared.built.Built.{Built}
 use Rattle.gc_build.specs.declared.built.Refusal.{Refusal}
 use Rattle.gc_build.specs.declared.built.Refusal.TheVariants as build
 use Rattle.gc_build_numbers.specs.Settings.{Setting}
-use Rattle.gc_build_reading.specs.FoundPaths.{found_variables}
 use Rattle.gc_build_reading.specs.Recipes.{recipe_of}
 use Rattle.gc_build_recipe.specs.Recipes.{Recipe}
 use Rattle.gc_exec.specs.Runs.{setting}
@@ -103,8 +102,8 @@ token_is names b = ap token_of (basic_parts names b)
 module _ (s : Scope) (names : Names) (at : Standing) (basic : Basic) (block : Block) (is : block_tree block ≡ block_of s [] (basic_tree names basic)) where
   -- on the table of its MATCH
   module _ (segments : List Segments) (table : Relation) where
-    abbrev asked : Tree ABlock → Recipe
-    asked b = recipe_of s table.schema (found_variables b) (basic_tree names basic)
+    abbrev asked : Recipe
+    asked = recipe_of s table.schema (basic_tree names basic)
 
     abbrev patterns : Tree ABlock → Patterns
     patterns b = record { block = b; segments = segments }
@@ -116,36 +115,36 @@ module _ (s : Scope) (names : Names) (at : Standing) (basic : Basic) (block : Bl
     read_in = record { schema = table.schema; rows = table.rows; reads = (out-Block block).reads; graphs = at.graphs }
 
     -- what is claimed on the table is of one graph
-    pub whole : (r : Recipe) → r ≡ asked (block_tree block) → AllByRecursion IsGraph at.graphs → AreStanding at.graphs at.next → AreOnGraphs at.graphs segments
+    pub whole : (r : Recipe) → r ≡ asked → AllByRecursion IsGraph at.graphs → AreStanding at.graphs at.next → AreOnGraphs at.graphs segments
         → IsTableOfBlock (setting at.graphs segments (block_tree block) []) table → IsBasicBuilt s (basic_tree names basic) → FitsWhole read_in r (patterns (block_tree block)) at.next
     whole r same graphs standing there matched built =
         let tree = basic_tree names basic in
         let reads = (out-Block block).reads in
         let B = block_tree block in
         let here : HasLinksOf B (reads_of B) (asked_on s tree B) = subst (λ (b : Tree ABlock). HasLinksOf b (reads_of b) (asked_on s tree b)) (sym is) built.links in
-        let asks : asked_on s tree B ≡ r = ap (λ schema. recipe_of s schema (found_variables B) tree) (sym matched.over) ∙ sym same in
+        let asks : asked_on s tree B ≡ r = ap (λ schema. recipe_of s schema tree) (sym matched.over) ∙ sym same in
         let links : HasLinksOf B reads r = subst (HasLinksOf B reads) asks (subst (λ rs. HasLinksOf B rs (asked_on s tree B)) (reads_are block) here) in
         let own : AllByRecursion (λ read. read.own ≡ read.walk) reads =
         subst (AllByRecursion (λ read. read.own ≡ read.walk)) (reads_are block) (subst (λ (b : Tree ABlock). AllByRecursion (λ read. read.own ≡ read.walk) (reads_of b)) (sym is) (own_reads s tree)) in
         let fits : Fits read_in r = record {
           graphs = graphs;
           bound = rows_bind at.graphs segments graphs there B table matched;
-          distinct = subst (λ (q : Recipe). AreDistinct q.variables) (sym same) (recipe_distinct s table.schema (found_variables B) tree);
+          distinct = subst (λ (q : Recipe). AreDistinct q.variables) (sym same) (recipe_distinct s table.schema tree);
         } in
         fits_whole read_in r (patterns B) at.next fits standing there (each_member (IsRowOfBlock (database at.graphs segments) [] B) table.rows matched.sound) links own
 
     abbrev MadeBy : Tree ABlock → (token : ℕ) → Result Made QueryRefusal → Type 0
-    MadeBy b token result = IsAnswered (ComesTo (read_by b) (asked b) (patterns b) at.next token) result
+    MadeBy b token result = IsAnswered (ComesTo (read_by b) asked (patterns b) at.next token) result
 
-    pub table_comes : (r : Recipe) → r ≡ asked (block_tree block) → (outcome : Result Built Refusal) → Constructs read_in r (patterns (block_tree block)) at.next outcome
+    pub table_comes : (r : Recipe) → r ≡ asked → (outcome : Result Built Refusal) → Constructs read_in r (patterns (block_tree block)) at.next outcome
         → (result : Result Made QueryRefusal) → result ≡ outcome_of (out-Basic basic).token outcome → IsAnswered (Comes s at (basic_tree names basic) segments table) result
     table_comes r same outcome made result told =
         let S : Setting = record { schema = table.schema; rows = table.rows; reads = reads_of (block_tree block); graphs = at.graphs } in
         let there : read_in ≡ S = λ i. record { schema = table.schema; rows = table.rows; reads = sym (reads_are block) i; graphs = at.graphs } in
-        let right : Constructs S (asked (block_tree block)) (patterns (block_tree block)) at.next outcome =
+        let right : Constructs S asked (patterns (block_tree block)) at.next outcome =
         subst (λ (x : Recipe). Constructs S x (patterns (block_tree block)) at.next outcome) same (subst (λ (x : Setting). Constructs x r (patterns (block_tree block)) at.next outcome) there made) in
         let here : MadeBy (block_tree block) (out-Basic basic).token result =
-        subst (MadeBy (block_tree block) (out-Basic basic).token) (sym told) (comes S (asked (block_tree block)) (patterns (block_tree block)) at.next (out-Basic basic).token outcome right) in
+        subst (MadeBy (block_tree block) (out-Basic basic).token) (sym told) (comes S asked (patterns (block_tree block)) at.next (out-Basic basic).token outcome right) in
         subst (λ token. MadeBy (block_of s [] (basic_tree names basic)) token result) (sym (token_is names basic)) (subst (λ (b : Tree ABlock). MadeBy b (out-Basic basic).token result) is here)
 
   abbrev Basic-denotes : Result Made Fault → Type 0

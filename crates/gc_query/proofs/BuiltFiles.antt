@@ -168,7 +168,8 @@ module _ (s : Scope) (os : Occurrences) (is : (t : ℕ) → s.hidden_at t ≡ hi
           (subst (λ us. IsUnbroken (match_breaches us main optionals)) none h.0) (subst (λ us. IsUnbroken (construct_breaches (graphs_in v) us items main optionals)) none h.1.0)
           (match_lies s.names s order.0 order.1 main optionals upto order.4 order.5).one;
       links = basic_links s (graphs_in v) token items main optionals (distinct o token items main optionals from upto order among)
-          (subst (λ us. IsUnbroken (match_breaches us main optionals)) none h.0) (subst (λ us. IsUnbroken (construct_breaches (graphs_in v) us items main optionals)) none h.1.0);
+          (subst (λ us. IsUnbroken (match_breaches us main optionals)) none h.0) (subst (λ us. IsUnbroken (construct_breaches (graphs_in v) us items main optionals)) none h.1.0)
+          (match_found s s.names from (tree.Basic token items main optionals) upto order stands);
       numbered = match_found s s.names from (tree.Basic token items main optionals) upto order stands;
       views = views;
     }

@@ -9,7 +9,7 @@ use Rattle.gc_base.specs.declared.place.Sym.{Sym}
 use Rattle.gc_build.specs.Fitting.{AreDistinct}
 use Rattle.gc_build_reading.specs.Places.{places_of}
 use Rattle.gc_build_reading.specs.Recipes.{makings_of, recipe_of}
-use Rattle.gc_build_reading.specs.Variables.{is_of, variable_at}
+use Rattle.gc_build_reading.specs.Variables.{is_of, match_at, variable_at}
 use Rattle.gc_build_recipe.specs.declared.variable.Variable.{Variable}
 use Rattle.gc_lower.specs.Scopes.{Scope}
 use Rattle.gc_ppg.specs.declared.shape.Kind.{Kind}
@@ -156,5 +156,5 @@ module _ {X : Type 0} (f : X → Variable) where
   pub distinct_firsts : (xs : List X) → AreDistinct (map f (of kind.Node (fold first [] xs) ++ of kind.Edge (fold first [] xs) ++ of kind.Path (fold first [] xs)))
   distinct_firsts xs = variables_distinct _ (by_kinds (fold first [] xs) (all_first [] xs nothing_apart))
 
-pub recipe_distinct : (s : Scope) (bound found : List Sym) (basic : Tree ABasic) → AreDistinct (recipe_of s bound found basic).variables
-recipe_distinct s bound found (tree.Basic token items main optionals) = distinct_firsts (variable_at (makings_of s bound found items)) (places_of s items)
+pub recipe_distinct : (s : Scope) (bound : List Sym) (basic : Tree ABasic) → AreDistinct (recipe_of s bound basic).variables
+recipe_distinct s bound (tree.Basic token items main optionals) = distinct_firsts (variable_at (makings_of s bound (match_at s token) items)) (places_of s items)

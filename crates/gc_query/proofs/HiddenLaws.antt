@@ -10,10 +10,10 @@ use Rattle.gc_ast.proofs.NameLemmas.{name_of_number}
 use Rattle.gc_ast.specs.Names.{number_in, same_name}
 use Rattle.gc_base.specs.declared.place.Sym.{Sym}
 use Rattle.gc_build.proofs.ClaimEnds.{any_member}
-use Rattle.gc_expr.specs.Views.{Names}
+use Rattle.gc_expr.specs.Views.{Names, found_name, name_of}
 use Rattle.gc_sorts.specs.Occurrences.{Occurrence, Occurrences, GraphName, ViewName, Unnamed, none, one, both}
 use Rattle.gc_sorts.specs.Reads.{hidden_from, unnamed_count}
-use Rattle.gc_lower.specs.Scopes.{Scope}
+use Rattle.gc_lower.specs.Scopes.{Scope, numbered}
 use Rattle.gc_query.proofs.MatchLinks.{passes_later}
 use Rattle.gc_query.proofs.MatchParts.{AreApart}
 
@@ -93,6 +93,12 @@ name_number names n h = by (number_in names n) refl
     by None is = let any = any_member (same_name n) names h in absurd (passes_later (same_name n) names any.0 any.1 any.2 is)
     by (Some i) is = (i, is, (position-Some (same_name n) names i n is).0)
 
+-- and is the name of this number
+name_there : (names : Names) (n : List ℕ) → list_any (same_name n) names ≡ true → name_of names (numbered names n) ≡ n
+name_there names n h =
+    let a = name_number names n h in
+    ap (λ o. found_name (slice_get names (unwrap_or o (length names)))) a.1 ∙ ap found_name (name_of_number names n a.0 a.1)
+
 -- names of the table and unnamed elements of the file have variables of their own
 pub are_apart : (s : Scope) (os : Occurrences) → ((t : ℕ) → s.hidden_at t ≡ hidden_from (length s.names) os t) → (names : List (List ℕ)) (tokens : List ℕ)
     → ((n : List ℕ) → Contains names n → list_any (same_name n) s.names ≡ true) → ((t : ℕ) → Contains tokens t → IsUnnamedIn t os) → AreApart s names tokens
@@ -115,4 +121,5 @@ are_apart s os is names tokens named unnamed = record {
       let b = hidden_there (length s.names) os u (unnamed u l) in
       let same : a.0 ≡ b.0 = sym (ap (λ o. unwrap_or o 0) (is t ∙ a.1)) ∙ (ap (λ (x : Sym). x.0) e ∙ ap (λ o. unwrap_or o 0) (is u ∙ b.1)) in
       hidden_one (length s.names) os t u b.0 (a.1 ∙ ap Some same) b.1;
+  named = λ n k. name_there s.names n (named n k);
 }

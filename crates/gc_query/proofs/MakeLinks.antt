@@ -39,8 +39,6 @@ use Rattle.gc_sorts.specs.Patterns.{each}
 use Rattle.gc_sorts.specs.Uses.{all_of, use_at}
 use Rattle.gc_sorts.specs.Variables.{Use, first_use, has_use, sort_of}
 use Rattle.gc_sorts.specs.declared.breach.SortRule.TheVariants.{LooseEdge}
-use Rattle.gc_sorts.specs.declared.sort.Sort.TheVariants as sort
-use Rattle.gc_sorts.specs.declared.sort.Role.{Role}
 use Rattle.gc_sorts.specs.declared.sort.Role.TheVariants as role
 use Rattle.gc_lower.specs.Scopes.{Scope, variable_of, variable_or}
 use Rattle.gc_query.proofs.MakeSites.{Place, EdgeSite, IsElement, IsPart, IsPlaceOf, IsSite, Site, a_node, a_stored, an_edge, chain_part, chain_sites, edge_places_are, node_listed, node_placed, nodes_of, of_site, of_stored, place_of_items, site_is, site_variable, sites_of}
@@ -48,7 +46,7 @@ use Rattle.gc_query.proofs.MakeSorts.{SiteFits, StoredFits, first_matched, kind_
 use Rattle.gc_query.proofs.MatchLinks.{IsEdgePattern, IsPathName}
 use Rattle.gc_query.proofs.MatchParts.{AreApart, MatchLink}
 use Rattle.gc_query.proofs.MatchPlaces.{hidden}
-use Rattle.gc_query.proofs.MatchSorts.{has_first, is_walk_role}
+use Rattle.gc_query.proofs.MatchSorts.{has_first}
 use Rattle.gc_query.proofs.SearchedAtoms.{IsUnbroken, not_broken}
 
 same_var : (x y : Sym) → (x.0 == y.0) ≡ true → x ≡ y
@@ -142,13 +140,12 @@ module _ (m : Makings) (places : List Place) where
       )
 
 -- what is known of a MATCH that breaks no rule: its places of a name have one sort; its links are patterns of its block; what its
--- patterns have is bound, by a name of theirs; and what is found is the walk at some place
+-- patterns have is bound; and a name whose variable is found has its first place in a found path pattern
 pub record IsKnown (s : Scope) (matched : List Use) (links : List Link) (block : alg.Tree alg.ABlock) (mk : Makings) (names : List (List ℕ)) : Type 0 where
   pub sorts : (u : Use) → Contains matched u → (f : Use) → first_use matched u.name ≡ Some f → sort_of f.role ≡ sort_of u.role
   pub patterns : (l : Link) → Contains links l → Contains names l.name → (x y : List ℕ) → l.left ≡ Some x → l.right ≡ Some y → MatchLink s (alg.items (alg.parts_of block)) matched l x y
   pub bound : (a : Atom) → Contains (block_atoms block) a → (z : Sym) → Contains (variables_of a.what) z → mk.is_bound z ≡ true
-  pub found : (z : Sym) → mk.is_found z ≡ true → (w : Use) × Contains matched w × (is_walk_role w.role ≡ true) × (z ≡ variable_of s w.name)
-  pub used : (u : Use) → Contains matched u → Contains names u.name
+  pub found : (n : List ℕ) → Contains names n → mk.is_found (variable_of s n) ≡ true → (f : Use) × (first_use matched n ≡ Some f) × (f.role ≡ role.Found)
 
 -- two neighbours of one name
 neighbours : (a b : Option (List ℕ)) → same_neighbour a b ≡ true → (n : List ℕ) × (a ≡ Some n) × (b ≡ Some n)
@@ -185,15 +182,6 @@ fits_so a b h =
     let r = neighbours a.right b.left q.0 in
     record { same = same; left = l.0; right = r.0; left_is = l.1; right_is = r.1; other = inr (r.2, l.2) })
     (either_true straight crossed both.1)
-
-walk_no_node : (r : Role) → is_walk_role r ≡ true → sort.Node ≡ sort_of r → ⊥
-walk_no_node role.Node w h = cc w
-walk_no_node role.Edge w h = cc w
-walk_no_node role.Stored w h = cc w
-walk_no_node role.Found w h = cc h
-walk_no_node role.All w h = cc h
-walk_no_node role.Property w h = cc w
-walk_no_node role.Cost w h = cc w
 
 module _ (s : Scope) (items : Tree (RowOf AnItem)) (m : Making) (links : List Link) (block : alg.Tree alg.ABlock) (mk : Makings) (names : List (List ℕ)) (tokens : List ℕ) (apart : AreApart s names tokens)
     (fit : (a : Site) → Contains (sites_of s items) a → SiteFits m a) (store : (n : List ℕ) → Contains (all_of item_stored items) n → StoredFits m n)
@@ -303,22 +291,20 @@ module _ (s : Scope) (items : Tree (RowOf AnItem)) (m : Making) (links : List Li
           absurd (not_path b j o i (sym ((is_site b j).kinds p n).1 ∙ (sym same ∙ ap (λ (z : Place). z.var) is)))
 
   -- a name that has a node's site, and a place in the MATCH, is that of a node there
-  not_found : (a : Site) → Contains sites a → a.kind ≡ kind.Node → mk.is_found (site_variable s a) ≡ false
-  not_found a k node = by (mk.is_found (site_variable s a)) refl
+  not_found : (a : Site) → Contains sites a → a.kind ≡ kind.Node → mk.is_bound (site_variable s a) ≡ true → mk.is_found (site_variable s a) ≡ false
+  not_found a k node bound = by (mk.is_found (site_variable s a)) refl
     where
-      walk : (w : Use) → Contains m.matched w → is_walk_role w.role ≡ true → site_variable s a ≡ variable_of s w.name → (o : Option Named) → a.name ≡ o → ⊥
-      walk w l is h None e = apart.mixed_apart w.name a.token (known.used w l) (site_tokens a k e) (sym h ∙ var_unnamed a e)
-      walk w l is h (Some x) e =
-          let same : x.name ≡ w.name = apart.names_apart x.name w.name (site_names a k x e) (known.used w l) (sym (var_named a x e) ∙ h) in
-          let f = has_first m.matched w l in
+      walk : (x : Named) → a.name ≡ Some x → mk.is_found (site_variable s a) ≡ true → ⊥
+      walk x e is =
+          let f = known.found x.name (site_names a k x e) (ap mk.is_found (sym (var_named a x e)) ∙ is) in
           let own = site_role m a (fit a k) (is_site a k).element x e in
-          let one : own.0 ≡ f.0 = same_Some own.0 f.0 (sym own.1 ∙ (ap (first_use (m.matched ++ m.made)) same ∙ first_matched m w.name f.0 f.1)) in
+          let one : own.0 ≡ f.0 = same_Some own.0 f.0 (sym own.1 ∙ first_matched m x.name f.0 f.1) in
           let at : f.0.role ≡ role.Node = ap (λ (u : Use). u.role) (sym one) ∙ (own.2 ∙ ap kind_role node) in
-          walk_no_node w.role is (sym (ap sort_of at) ∙ known.sorts w l f.0 f.1)
+          cc (sym at ∙ f.2)
 
       by : (b : Bool) → mk.is_found (site_variable s a) ≡ b → b ≡ false
       by false is = refl
-      by true is = let w = known.found (site_variable s a) is in absurd (walk w.0 w.1 w.2 w.3 a.name refl)
+      by true is = let x = bound_name a k bound in absurd (walk x.0 x.1 is)
 
   module _ (parts : Tree (RowOf AConstructPart)) (chain : Chain) (here : chain.places ≡ all_of (part_variables s) parts) (recipe : Recipe) (variables : recipe.variables ≡ r.variables)
       (part_sites : (a : Site) → Contains (chain_sites s None parts) a → Contains sites a) (part_places : (q : Place) → Contains (chain_places s None parts) q → Contains places q)
@@ -374,7 +360,7 @@ module _ (s : Scope) (items : Tree (RowOf AnItem)) (m : Making) (links : List Li
             ap (λ t. cond t (bound_grouping (mk.is_found q.var)) (new_grouping q.ends (all_terms mk q.var))) b ∙ ap bound_grouping (found_at (place_of_items s items q l))
           where
             found_at : IsPlaceOf s sites stored q → mk.is_found q.var ≡ false
-            found_at (of_site a i o) = let is = (is_site a i).kinds q o in ap mk.is_found is.1 ∙ not_found a i (sym is.0 ∙ node)
+            found_at (of_site a i o) = let is = (is_site a i).kinds q o in ap mk.is_found is.1 ∙ not_found a i (sym is.0 ∙ node) (ap mk.is_bound (sym is.1) ∙ b)
             found_at (of_stored n i is) = absurd (cc (sym (ap (λ (z : Place). z.kind) is) ∙ node))
 
     -- the pattern that an edge of the chain is, whose name the MATCH has

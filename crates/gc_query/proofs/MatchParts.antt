@@ -9,6 +9,7 @@ use Rattle.gc_ast.specs.Trees as tree
 use Rattle.gc_ast.specs.Trees.{Tree, RowOf, ABlock, ALocated, AnOptional}
 use Rattle.gc_build.proofs.ClaimEnds.{any_member}
 use Rattle.gc_build.specs.Linked.{IsOwn, in_part}
+use Rattle.gc_expr.specs.Views.{name_of}
 use Rattle.gc_rows.proofs.Members.{cons_cases, contains_here, contains_later, from_map, of_member}
 use Rattle.gc_rows.specs.Rows.{lists}
 use Rattle.gc_values.specs.declared.reads.ReadUse.{ReadUse}
@@ -29,11 +30,12 @@ use Rattle.gc_query.proofs.MatchLinks.{IsEdgePattern, IsPathName, block_link, no
 use Rattle.gc_query.proofs.MatchPlaces.{AtomStands, PlaceOn, StandsOn, atoms_stand, hidden, located_places, located_tokens, named_on, place_on, unnamed_on}
 use Rattle.gc_query.proofs.SearchedAtoms.{IsUnbroken}
 
--- names and unnamed elements stand for variables of their own
+-- names and unnamed elements stand for variables of their own, and the variable of a name has this name
 pub record AreApart (s : Scope) (names : List (List ℕ)) (tokens : List ℕ) : Type 0 where
   pub names_apart : (n m : List ℕ) → Contains names n → Contains names m → variable_of s n ≡ variable_of s m → n ≡ m
   pub mixed_apart : (n : List ℕ) (t : ℕ) → Contains names n → Contains tokens t → variable_of s n ≡ hidden s t → ⊥
   pub tokens_apart : (t u : ℕ) → Contains tokens t → Contains tokens u → hidden s t ≡ hidden s u → t ≡ u
+  pub named : (n : List ℕ) → Contains names n → name_of s.names (variable_of s n) ≡ n
 
 -- the tokens of the unnamed elements of a block, and its places on their graphs
 abbrev pub block_tokens : Tree ABlock → List ℕ

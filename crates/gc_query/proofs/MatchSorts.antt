@@ -1,16 +1,18 @@
 -- In a MATCH that breaks no rule a name has one sort, and that of a walk stands at one place.
-use Rattle.std.proofs.Common.{◌≡◌, ◌⊎◌, inl, inr, ⊎_elim, ℕ, zero, suc, ◌&&◌, ◌||◌, Bool, true, false, cond, not, List, [], ◌∷◌, Option, Some, refl, sym, ap, ◌∙◌, subst, arith}
+use Rattle.std.proofs.Common.{◌≡◌, ◌⊎◌, inl, inr, ⊎_elim, ℕ, zero, suc, ◌&&◌, ◌||◌, Bool, true, false, cond, not, List, [], ◌∷◌, Option, None, Some, refl, sym, ap, ◌∙◌, subst, arith}
 use Rattle.std.specs.Prelude.{nat_eq}
 use Rattle.std.specs.List.{Contains}
+use Rattle.std.specs.Option.{option_map}
 use Rattle.std.specs.Cmp.Lexicographic.{bytes_decides}
 use Rattle.std.proofs.lemmas.Bool.{eqb-true}
 use Rattle.std.proofs.lemmas.Option.{none-some, same_Some}
 use Rattle.gc_ast.specs.Names.{same_name}
+use Rattle.gc_build_reading.specs.Variables.{is_found_sort}
 use Rattle.gc_rows.proofs.Members.{cons_cases, contains_here, contains_later}
 use Rattle.gc_sorts.specs.Breaches.{broken, broken_if, none}
 use Rattle.gc_sorts.specs.declared.breach.SortRule.TheVariants.{SortClash, TwiceBound}
 use Rattle.gc_sorts.specs.Matches.{beside, later_place, place_breaches, same_sort, sort_number, stands_once}
-use Rattle.gc_sorts.specs.Variables.{Use, first_use, has_cost, is_property, is_single, sort_of}
+use Rattle.gc_sorts.specs.Variables.{Use, first_sort, first_use, has_cost, is_property, is_single, sort_of}
 use Rattle.gc_sorts.specs.declared.sort.Role.{Role}
 use Rattle.gc_sorts.specs.declared.sort.Role.TheVariants as role
 use Rattle.gc_sorts.specs.declared.sort.Sort.{Sort}
@@ -57,6 +59,26 @@ number_of sort.Value = refl
 
 one_sort : (a b : Sort) → same_sort a b ≡ true → a ≡ b
 one_sort a b h = sym (number_of a) ∙ ap of_number (eqb-true (sort_number a) (sort_number b) h) ∙ number_of b
+
+-- a name of the sort of a found walk has its first place in a found path pattern
+found_role : (r : Role) → is_found_sort (Some (sort_of r)) ≡ true → r ≡ role.Found
+found_role role.Node h = absurd (cc h)
+found_role role.Edge h = absurd (cc h)
+found_role role.Stored h = absurd (cc h)
+found_role role.Found h = refl
+found_role role.All h = absurd (cc h)
+found_role role.Property h = absurd (cc h)
+found_role role.Cost h = absurd (cc h)
+
+abbrev is_found_at : Option Use → Bool
+is_found_at first = is_found_sort (option_map (λ (u : Use). sort_of u.role) first)
+
+pub found_use : (uses : List Use) (name : List ℕ) → is_found_sort (first_sort uses name) ≡ true → (f : Use) × (first_use uses name ≡ Some f) × (f.role ≡ role.Found)
+found_use uses name h = by (first_use uses name) refl
+  where
+    by : (first : Option Use) → first_use uses name ≡ first → (f : Use) × (first_use uses name ≡ Some f) × (f.role ≡ role.Found)
+    by None is = absurd (cc (sym (ap is_found_at is) ∙ h))
+    by (Some f) is = (f, is, found_role f.role (sym (ap is_found_at is) ∙ h))
 
 -- whether a place is that of a walk that is looked for
 abbrev pub is_walk_role : Role → Bool

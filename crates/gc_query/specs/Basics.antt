@@ -6,7 +6,6 @@ use Rattle.gc_ast.specs.Trees.{Tree, ABasic, Basic}
 use Rattle.gc_build.specs.Constructed.{IsBuilt, IsSpent, fault}
 use Rattle.gc_build.specs.AllPaths.{Patterns}
 use Rattle.gc_build_numbers.specs.Settings.{Setting}
-use Rattle.gc_build_reading.specs.FoundPaths.{found_variables}
 use Rattle.gc_build_reading.specs.Recipes.{recipe_of}
 use Rattle.gc_build_recipe.specs.Recipes.{Recipe}
 use Rattle.gc_exec.specs.Runs.{setting}
@@ -47,7 +46,7 @@ abbrev pub patterns_of : Scope → Tree ABasic → List Segments → Patterns
 patterns_of s basic segments = record { block = block_of s [] basic; segments = segments }
 
 abbrev pub asked_of : Scope → Tree ABasic → Relation → Recipe
-asked_of s basic table = recipe_of s table.schema (found_variables (block_of s [] basic)) basic
+asked_of s basic table = recipe_of s table.schema basic
 
 -- what a CONSTRUCT comes to on the table of its MATCH
 abbrev pub Comes : Scope → Standing → Tree ABasic → List Segments → Relation → Result Made Fault → Type 0

@@ -9,7 +9,6 @@ use Rattle.gc_alg.specs.declared.atom.AtomWhat.TheVariants as atom
 use Rattle.gc_ast.specs.Trees as ast
 use Rattle.gc_ast.specs.Trees.{Tree, AHead, AStatement, View, Ask, Query, NextTerm, BasicTerm, GraphTerm, QueryTerm, PathHead, GraphHead}
 use Rattle.gc_build.specs.Linked.{HasLinksOf}
-use Rattle.gc_build_reading.specs.FoundPaths.{found_variables}
 use Rattle.gc_build_reading.specs.Recipes.{recipe_of}
 use Rattle.gc_build_recipe.specs.Recipes.{Recipe}
 use Rattle.gc_cert_searches.specs.Patterns.{AreOnly}
@@ -41,7 +40,7 @@ are_searched (alg.more t ts) = are_searched t && are_searched ts
 
 -- what a CONSTRUCT asks for on the table of the block of its MATCH
 abbrev pub asked_on : Scope → ast.Tree ast.ABasic → alg.Tree ABlock → Recipe
-asked_on s basic block = recipe_of s (joined_schema [] (block_variables block)) (found_variables block) basic
+asked_on s basic block = recipe_of s (joined_schema [] (block_variables block)) basic
 
 -- a block that stands in no WHERE is found by its token
 pub record IsNumbered (s : Scope) (block : Block) : Type 0 where

@@ -27,7 +27,7 @@ use gc_ast::Basic;
 use gc_base::Steps;
 use gc_build::{Built, Refusal, construct};
 use gc_build_numbers::Setting;
-use gc_build_reading::{found_variables, recipe};
+use gc_build_reading::recipe;
 use gc_catalog::Catalog;
 use gc_ppg::GraphList;
 use gc_prod::SegmentTable;
@@ -113,14 +113,7 @@ fn table_made<L: Ledger>(
 {
     are_graphs(graphs);
     let bound = matched.table.schema().as_slice();
-    let found = found_variables(session.alloc, matched.block)?;
-    let recipe = recipe(
-        session.alloc,
-        session.checked,
-        basic,
-        bound,
-        found.as_slice(),
-    )?;
+    let recipe = recipe(session.alloc, session.checked, basic, bound)?;
     let setting = Setting {
         alloc: session.alloc,
         table: matched.table,

@@ -1,10 +1,7 @@
 use Rattle.std.proofs.Common.{◌≡◌, List, ap, sym, subst, ◌∙◌}
-use Rattle.gc_alg.specs.Views.{block_tree}
 use Rattle.gc_ast.specs.QueryViews.{basic_tree}
 use Rattle.gc_ast.specs.declared.query.Basic.{Basic, out-Basic}
-use Rattle.gc_alg.specs.Trees.{Tree, ABlock}
 use Rattle.gc_base.specs.declared.place.Sym.{Sym}
-use Rattle.gc_build_reading.specs.FoundPaths.{found_variables}
 use Rattle.gc_build_reading.specs.Recipes.{recipe_of}
 use Rattle.gc_expr.specs.Views.{Names}
 use Rattle.gc_lower.specs.Scopes.{Scope}
@@ -16,10 +13,9 @@ use Rattle.gc_query.specs.Built.{are_searched}
 use Rattle.gc_query.proofs.basics.table_made.Goals as goal
 
 -- what the recipe is
-recipe_is : (s : Scope) (names : Names) (basic : Basic) (tree : Tree ABlock) (r : Recipe) (schema bound found : List Sym) → r ≡ recipe_of s bound found (basic_tree names basic) → bound ≡ schema
-    → found ≡ found_variables tree → r ≡ recipe_of s schema (found_variables tree) (basic_tree names basic)
-recipe_is s names basic tree r schema bound found h e f =
-    h ∙ (ap (λ (xs : List Sym). recipe_of s bound xs (basic_tree names basic)) f ∙ ap (λ (xs : List Sym). recipe_of s xs (found_variables tree) (basic_tree names basic)) e)
+recipe_is : (s : Scope) (names : Names) (basic : Basic) (r : Recipe) (schema bound : List Sym) → r ≡ recipe_of s bound (basic_tree names basic) → bound ≡ schema
+    → r ≡ recipe_of s schema (basic_tree names basic)
+recipe_is s names basic r schema bound h e = h ∙ ap (λ (xs : List Sym). recipe_of s xs (basic_tree names basic)) e
 
 pub construct-outcome-requires-clause-searchable : goal.construct-outcome-requires-clause-searchable
 construct-outcome-requires-clause-searchable g c = all_searched _ (ap are_searched c.requires.block ∙ c.requires.built.searched)
@@ -28,11 +24,10 @@ pub construct-outcome-requires-clause-whole : goal.construct-outcome-requires-cl
 construct-outcome-requires-clause-whole g c =
     let s : Scope = scope_in c.args.session.now in
     let names : Names = names_in c.args.session.now in
-    let tree = block_tree c.args.matched.now.block.now in
     whole s names (record { graphs = c.args.graphs.now; next = c.args.next }) c.args.basic.now c.args.matched.now.block.now c.requires.block
     c.args.matched.now.segments.now c.args.matched.now.table.now c.in_ok-recipe.recipe
-    (recipe_is s names c.args.basic.now tree c.in_ok-recipe.recipe c.args.matched.now.table.now.schema c.as_slice-bound.result.now c.as_slice.result.now c.in_ok-recipe.ensures
-    (c.as_slice-bound.ensures ∙ c.schema.ensures) (c.as_slice.ensures ∙ c.in_ok-found.ensures))
+    (recipe_is s names c.args.basic.now c.in_ok-recipe.recipe c.args.matched.now.table.now.schema c.as_slice-bound.result.now c.in_ok-recipe.ensures
+    (c.as_slice-bound.ensures ∙ c.schema.ensures))
     c.are_graphs.ensures c.requires.standing c.requires.there c.requires.matched c.requires.built
 
 pub returns-clause-rises : goal.returns-clause-rises
@@ -43,11 +38,10 @@ pub returns-clause-due : goal.returns-clause-due
 returns-clause-due g c =
     let s : Scope = scope_in c.args.session.now in
     let names : Names = names_in c.args.session.now in
-    let tree = block_tree c.args.matched.now.block.now in
     table_comes s names (record { graphs = c.args.graphs.now; next = c.args.next }) c.args.basic.now c.args.matched.now.block.now c.requires.block
     c.args.matched.now.segments.now c.args.matched.now.table.now c.in_ok-recipe.recipe
-    (recipe_is s names c.args.basic.now tree c.in_ok-recipe.recipe c.args.matched.now.table.now.schema c.as_slice-bound.result.now c.as_slice.result.now c.in_ok-recipe.ensures
-    (c.as_slice-bound.ensures ∙ c.schema.ensures) (c.as_slice.ensures ∙ c.in_ok-found.ensures))
+    (recipe_is s names c.args.basic.now c.in_ok-recipe.recipe c.args.matched.now.table.now.schema c.as_slice-bound.result.now c.in_ok-recipe.ensures
+    (c.as_slice-bound.ensures ∙ c.schema.ensures))
     c.construct-outcome.result c.construct-outcome.ensures.made c.made_of.result c.made_of.ensures
 
 pub returns-clause-comes : goal.returns-clause-comes
