@@ -61,8 +61,8 @@ impl<'a> Reader<'a> {
             (Some(datum), None) => Ok(Some(datum.copy()?)),
             (Some(_), Some(property)) => {
                 let values = literals(setting, property, row, steps)?;
-                let values = Counted::of(setting.alloc, values)?;
-                Ok(Some(Datum::Value(values)))
+                let counted = Counted::of(setting.alloc, values)?;
+                Ok(Some(Datum::Value(counted)))
             }
         }
     }
