@@ -7,7 +7,8 @@ use Rattle.indexmap.specs.IndexSet.{contains}
 use Rattle.gc_base.specs.declared.place.Sym.{Sym}
 use Rattle.gc_build_recipe.specs.declared.variable.Term.{Term}
 use Rattle.gc_build_reading.specs.Namings.{scope}
-use Rattle.gc_build_reading.specs.Variables.{Makings, is_found_in}
+use Rattle.gc_lower.specs.Scopes.{is_found_in}
+use Rattle.gc_build_reading.specs.Variables.{Makings}
 use Rattle.gc_build_reading.specs.declared.index.Copies.{Copies}
 use Rattle.gc_build_reading.specs.declared.index.Index.{Index}
 use Rattle.gc_build_reading.specs.declared.index.Terms.{Terms}

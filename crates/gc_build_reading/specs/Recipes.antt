@@ -6,10 +6,10 @@ use Rattle.gc_ast.specs.Trees.{Tree, RowOf, ABasic, AnItem}
 use Rattle.gc_sorts.specs.Uses.{all_of}
 use Rattle.gc_rows.specs.Rows.{lists}
 use Rattle.gc_build_recipe.specs.Recipes.{Recipe}
-use Rattle.gc_lower.specs.Scopes.{Scope}
+use Rattle.gc_lower.specs.Scopes.{Scope, is_found_in}
 use Rattle.gc_build_reading.specs.Items.{item_labels, item_assignments, item_lost_labels, item_lost_properties, item_terms, item_copies, item_chains, item_graphs}
 use Rattle.gc_build_reading.specs.Places.{places_of}
-use Rattle.gc_build_reading.specs.Variables.{Makings, copied_by, first_places, is_found_in, match_at, own_terms, variables_at}
+use Rattle.gc_build_reading.specs.Variables.{Makings, copied_by, first_places, match_at, own_terms, variables_at}
 
 -- what items say of the making of variables, where the MATCH binds these, and is the block of this number
 abbrev pub makings_of : Scope → (bound : List Sym) → (block : ℕ) → Tree (RowOf AnItem) → Makings

@@ -3,10 +3,7 @@ use Rattle.std.specs.Prelude.{ℕ, Bool, true, false, ◌==◌, List, [], ◌∷
 use Rattle.std.specs.List.{filter, list_any}
 use Rattle.std.specs.Option.{option_to_list}
 use Rattle.gc_base.specs.declared.place.Sym.{Sym}
-use Rattle.gc_expr.specs.Views.{name_of}
-use Rattle.gc_sorts.specs.Blocks.{block_at, sort_in}
-use Rattle.gc_sorts.specs.declared.sort.Sort.{Sort}
-use Rattle.gc_sorts.specs.declared.sort.Sort.TheVariants as sort
+use Rattle.gc_sorts.specs.Blocks.{block_at}
 use Rattle.gc_lower.specs.Scopes.{Scope, number_at}
 use Rattle.gc_ppg.specs.declared.shape.Kind.{Kind}
 use Rattle.gc_ppg.specs.declared.shape.Kind.TheVariants as kind
@@ -24,16 +21,6 @@ use Rattle.gc_build_reading.specs.declared.terms.TermOf.{TermOf}
 -- the block of the MATCH of a CONSTRUCT, by the token of that
 abbrev pub match_at : Scope → (token : ℕ) → ℕ
 match_at s token = number_at (block_at s.blocks) token
-
--- whether a variable of the block of a MATCH stands for a walk that is looked for, by its sort there, which is that of its first place. So
--- it does exactly where a found path pattern of the MATCH, or of one of its OPTIONAL blocks, binds it: in
--- `MATCH (x)-/p<:A> COST c/->(y)-/@q/->(z) OPTIONAL (x)-/2 SHORTEST r<:B>/->(w)` these are p and r. An unnamed element has no sort.
-abbrev pub is_found_sort : Option Sort → Bool
-is_found_sort (Some sort.Found) = true
-is_found_sort other = false
-
-abbrev pub is_found_in : Scope → (block : ℕ) → Sym → Bool
-is_found_in s block x = is_found_sort (sort_in s.blocks block (name_of s.names x))
 
 -- what is said of the making of a variable: whether the MATCH binds it, and whether as a found walk; its GROUP terms, and the variable
 -- that it copies

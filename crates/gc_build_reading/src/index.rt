@@ -3,7 +3,8 @@ ghost use Rattle.gc_base.specs.declared.place.Sym.{Sym as Variable};
 ghost use Rattle.gc_rows.specs.Rows.{lists};
 ghost use Rattle.gc_build_reading.specs.Indexes.{copied_in, has, makings_in, terms_in};
 ghost use Rattle.gc_build_reading.specs.Namings.{scope};
-ghost use Rattle.gc_build_reading.specs.Variables.{copied_by, is_found_in, own_terms};
+ghost use Rattle.gc_build_reading.specs.Variables.{copied_by, own_terms};
+ghost use Rattle.gc_lower.specs.Scopes.{is_found_in};
 
 use crate::naming::Naming;
 use crate::terms::{CopyOf, TermOf, TermOfList};

@@ -2,8 +2,8 @@ ghost use Rattle.std.specs.Prelude.{◌≡◌, Some};
 
 use gc_ast::NewElement;
 use gc_base::{BlockNo, NameAt, Sym};
-use gc_lower::variable;
-use gc_sorts::{Checked, Sort};
+use gc_lower::{is_found, variable};
+use gc_sorts::Checked;
 
 /// What the names and the tokens of a checked file stand for.
 #[derive(Drop)]
@@ -19,7 +19,8 @@ impl Naming<'_> {
     ghost use Rattle.gc_ast.specs.QueryViews.{new_element_tree};
     ghost use Rattle.gc_build_reading.specs.Places.{element_variable};
     ghost use Rattle.gc_build_reading.specs.Namings.{names_of, scope, variable_in};
-    ghost use Rattle.gc_build_reading.specs.Variables.{is_found_in, match_at};
+    ghost use Rattle.gc_build_reading.specs.Variables.{match_at};
+    ghost use Rattle.gc_lower.specs.Scopes.{is_found_in};
 
     // The hidden variable of the unnamed element at a token.
     fn hidden(&self, token: u32) -> Sym
@@ -49,7 +50,7 @@ impl Naming<'_> {
     pub(crate) fn is_found(&self, block: BlockNo, var: Sym) -> bool
         ensures { result ≡ is_found_in (scope self.now) block.0 var }
     {
-        self.checked.sort(block, var) == Some(Sort::Found)
+        is_found(self.checked, block, var)
     }
 
     /// The variable of a name of the file, by its number.

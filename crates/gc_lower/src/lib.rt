@@ -1,6 +1,6 @@
 //! What a block of a checked query file asks for: its patterns as atoms, the parts of its conditions as
 //! conjuncts with their EXISTS queries, and its tree in the order of the text. Others rely on
-//! `lower` and `variable`. This crate knows of no rows and runs nothing.
+//! `lower`, `variable` and `is_found`. This crate knows of no rows and runs nothing.
 #![tactic(auto)]
 
 mod around;
@@ -18,4 +18,4 @@ mod renumbering;
 mod variables;
 
 pub use lowering::{LoweredBlock, lower};
-pub use variables::variable;
+pub use variables::{is_found, variable};

@@ -20,7 +20,7 @@ use Rattle.gc_alg.specs.declared.atom.AtomWhat.TheVariants as atom
 use Rattle.gc_build.proofs.ClaimEnds.{any_member, member_any}
 use Rattle.gc_build.specs.Linked.{HasLinksOf, IsReadThere}
 use Rattle.gc_build_reading.specs.Recipes.{makings_of, recipe_by, recipe_of}
-use Rattle.gc_build_reading.specs.Variables.{Makings, is_found_sort, match_at}
+use Rattle.gc_build_reading.specs.Variables.{Makings, match_at}
 use Rattle.gc_rows.proofs.Members.{cons_cases, contains_here, contains_later, from_flat_map, from_map, of_member, to_flat_map, to_map}
 use Rattle.gc_rows.specs.Algebra.{joined_schema}
 use Rattle.gc_rows.specs.Rows.{lists, with_variable}
@@ -35,7 +35,7 @@ use Rattle.gc_sorts.specs.Variables.{Use, first_sort, has_use, use_names}
 use Rattle.gc_lower.specs.Blocks as lower
 use Rattle.gc_lower.specs.Blocks.{block_of, optional_parts, optional_reads, part_of}
 use Rattle.gc_lower.specs.Reads.{reads_of}
-use Rattle.gc_lower.specs.Scopes.{Scope, variable_or}
+use Rattle.gc_lower.specs.Scopes.{Scope, is_found_sort, variable_or}
 use Rattle.gc_query.specs.Built.{IsNumbered}
 use Rattle.gc_query.proofs.MakeLinks.{IsKnown, items_linked}
 use Rattle.gc_query.proofs.MakeSites.{Site, site_variable, sites_of}

@@ -7,7 +7,7 @@ use Rattle.std.specs.Cmp.Lexicographic.{bytes_decides}
 use Rattle.std.proofs.lemmas.Bool.{eqb-true}
 use Rattle.std.proofs.lemmas.Option.{none-some, same_Some}
 use Rattle.gc_ast.specs.Names.{same_name}
-use Rattle.gc_build_reading.specs.Variables.{is_found_sort}
+use Rattle.gc_lower.specs.Scopes.{is_found_sort}
 use Rattle.gc_rows.proofs.Members.{cons_cases, contains_here, contains_later}
 use Rattle.gc_sorts.specs.Breaches.{broken, broken_if, none}
 use Rattle.gc_sorts.specs.declared.breach.SortRule.TheVariants.{SortClash, TwiceBound}

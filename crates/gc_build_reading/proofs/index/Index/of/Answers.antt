@@ -1,5 +1,5 @@
 use Rattle.gc_build_reading.specs.Namings.{scope}
-use Rattle.gc_build_reading.specs.Variables.{is_found_in}
+use Rattle.gc_lower.specs.Scopes.{is_found_in}
 use Rattle.gc_build_reading.proofs.index.Index.of.Goals as goal
 
 pub returns : goal.returns
