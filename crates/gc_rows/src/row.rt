@@ -10,7 +10,6 @@ use crate::datum::Datum;
 use crate::variables::is_listed;
 use gc_base::{Duplicate, Memory, Sequence, Sym};
 use std::alloc::Global;
-use std::cmp::Ordering;
 use std::marker::Model;
 use std::mem::{drop, replace};
 
@@ -141,10 +140,11 @@ impl Row {
     {
         let bindings = self.bindings();
         for (place, binding) in bindings.iter().enumerate() {
-            match binding.var.0.cmp(&var.0) {
-                Ordering::Less => {}
-                Ordering::Equal => return Ok(place),
-                Ordering::Greater => return Err(place),
+            if binding.var.0 == var.0 {
+                return Ok(place);
+            }
+            if binding.var.0 > var.0 {
+                return Err(place);
             }
         }
         Err(bindings.len())
