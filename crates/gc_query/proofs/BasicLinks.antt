@@ -8,7 +8,7 @@ use Rattle.std.proofs.lemmas.Grind.{flat_map-append}
 use Rattle.gc_base.proofs.SetLaws.{AllByRecursion-append}
 use Rattle.gc_base.specs.declared.place.Sym.{Sym}
 use Rattle.gc_ast.specs.Trees as tree
-use Rattle.gc_ast.specs.Trees.{Tree, Named, RowOf, ABasic, ABlock, ALocated, AnOptional, AnItem}
+use Rattle.gc_ast.specs.Trees.{Tree, Named, RowOf, ABlock, ALocated, AnOptional, AnItem}
 use Rattle.gc_alg.proofs.Items.{items_row}
 use Rattle.gc_alg.proofs.Schemas.{joined_listed}
 use Rattle.gc_alg.specs.Instances.{listed, own_variables, variables_of}

@@ -16,7 +16,7 @@ use Rattle.gc_alg.specs.declared.atom.Atom.{Atom}
 use Rattle.gc_alg.specs.declared.atom.AtomWhat.TheVariants as atom
 use Rattle.gc_ast.specs.Names.{same_name}
 use Rattle.gc_ast.specs.Trees as tree
-use Rattle.gc_ast.specs.Trees.{Tree, Named, RowOf, ABlock, AnOptional, AnItem, AConstructPart}
+use Rattle.gc_ast.specs.Trees.{Tree, Named, RowOf, ABlock, AnItem, AConstructPart}
 use Rattle.gc_build.proofs.ClaimEnds.{any_member, member_any}
 use Rattle.gc_build.proofs.WalksIn.{either_true}
 use Rattle.gc_build.specs.Fitting.{IsNodePlace}

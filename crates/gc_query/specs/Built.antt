@@ -7,7 +7,7 @@ use Rattle.gc_alg.specs.Trees.{ABlock, BlockOf, PartOf, ConjunctOf, ExistsOf}
 use Rattle.gc_alg.specs.declared.atom.AtomWhat.{AtomWhat}
 use Rattle.gc_alg.specs.declared.atom.AtomWhat.TheVariants as atom
 use Rattle.gc_ast.specs.Trees as ast
-use Rattle.gc_ast.specs.Trees.{Tree, AHead, AStatement, View, Ask, Query, NextTerm, BasicTerm, GraphTerm, QueryTerm, PathHead, GraphHead}
+use Rattle.gc_ast.specs.Trees.{Tree, AHead, View, Ask, Query, NextTerm, BasicTerm, GraphTerm, QueryTerm, PathHead, GraphHead}
 use Rattle.gc_build.specs.Linked.{HasLinksOf}
 use Rattle.gc_build_reading.specs.Recipes.{recipe_of}
 use Rattle.gc_build_recipe.specs.Recipes.{Recipe}
