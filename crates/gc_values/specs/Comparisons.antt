@@ -8,8 +8,8 @@ use Rattle.gc_base.specs.Literals.{kind_number, literal_order}
 use Rattle.gc_base.specs.declared.literal.Literal.{Literal}
 use Rattle.gc_expr.specs.declared.expr.Comparison.{Comparison}
 use Rattle.gc_expr.specs.declared.expr.Comparison.TheVariants.{Equal, Unequal, Less, LessEqual, Greater, GreaterEqual, Member, Included}
-use Rattle.gc_values.specs.declared.compared.Rank.{Rank}
-use Rattle.gc_values.specs.declared.compared.Rank.TheVariants as rank
+use Rattle.gc_values.specs.declared.rank.Rank.{Rank}
+use Rattle.gc_values.specs.declared.rank.Rank.TheVariants as rank
 use Rattle.gc_values.specs.declared.val.Val.{Val}
 use Rattle.gc_values.specs.declared.val.Val.TheVariants.{Set, Element, Undefined}
 use Rattle.gc_values.specs.declared.truth3.Truth3.{Truth3}

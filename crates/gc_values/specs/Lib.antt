@@ -7,3 +7,4 @@ pub mod ExprValues
 pub mod Kleene
 pub mod Mentions
 pub mod PathParts
+pub mod References

@@ -1,16 +1,18 @@
-ghost use Rattle.std.specs.Prelude.{◌≡◌, map, pos, slice_get, IfOk};
+ghost use Rattle.std.specs.Prelude.{◌≡◌, map, pos, slice_get};
 ghost use Rattle.std.specs.Option.{option_copied, option_and_then};
 ghost use Rattle.gc_base.specs.Walks.{edges_of};
 ghost use Rattle.gc_values.specs.Arithmetic.{exact};
 ghost use Rattle.gc_values.specs.PathParts.{stored_walk, walk_of, length_of, nodes_along, place_at, place_of, element_or_none, part_at};
+ghost use Rattle.gc_values.specs.References.{value_seen};
 
 use crate::context::Context;
+use crate::literals::Literals;
 use crate::numbers::{Operand, number};
-use crate::val::{Val, Why};
-use gc_base::{Id, Memory, Step, Steps, Sym, ValueSet, Walk};
+use crate::val::Why;
+use crate::val_ref::ValRef;
+use gc_base::{Id, Step, Steps, Sym, Walk};
 use gc_ppg::Graph;
 use gc_rows::Datum;
-use std::alloc::Global;
 use std::sync::ledger::Ledger;
 
 /// The walk of a variable: a found one, or that of a stored path that its graph has.
@@ -43,12 +45,12 @@ fn stored_walk<'a, L: Ledger>(
 }
 
 /// The number of edges of a walk; the empty set where there is none.
-pub(crate) fn length_of(alloc: Global, walk: Option<&Walk>) -> Result<Val, Memory>
-    ensures { IfOk result (λ v. v ≡ length_of (option_copied walk.entry)) }
+pub(crate) fn length_of<'a>(walk: Option<&Walk>) -> ValRef<'a>
+    ensures { value_seen result ≡ length_of (option_copied walk.entry) }
 {
     match walk {
-        None => Ok(Val::Set(ValueSet::empty(alloc))),
-        Some(walk) => number(alloc, whole(walk.steps.as_slice().len())),
+        None => ValRef::Set(Literals::Empty),
+        Some(walk) => number(whole(walk.steps.as_slice().len())),
     }
 }
 
@@ -63,27 +65,27 @@ fn whole(count: usize) -> Result<i64, Why>
 }
 
 /// A node of a walk by its index; the empty set where there is no walk.
-pub(crate) fn node_of(alloc: Global, walk: Option<&Walk>, index: &Val) -> Val
-    ensures { result ≡ part_at nodes_along (option_copied walk.entry) index.now }
+pub(crate) fn node_of<'a>(walk: Option<&Walk>, index: &ValRef<'_>) -> ValRef<'a>
+    ensures { value_seen result ≡ part_at nodes_along (option_copied walk.entry) (value_seen index.now) }
 {
     match walk {
-        None => Val::Set(ValueSet::empty(alloc)),
+        None => ValRef::Set(Literals::Empty),
         Some(walk) => match place_of(Operand::of(index)) {
-            Err(why) => Val::Undefined(why),
-            Ok(place) => element_or_none(alloc, node_at(walk, place)),
+            Err(why) => ValRef::Undefined(why),
+            Ok(place) => element_or_none(node_at(walk, place)),
         },
     }
 }
 
 /// An edge of a walk by its index; the empty set where there is no walk.
-pub(crate) fn edge_of(alloc: Global, walk: Option<&Walk>, index: &Val) -> Val
-    ensures { result ≡ part_at edges_of (option_copied walk.entry) index.now }
+pub(crate) fn edge_of<'a>(walk: Option<&Walk>, index: &ValRef<'_>) -> ValRef<'a>
+    ensures { value_seen result ≡ part_at edges_of (option_copied walk.entry) (value_seen index.now) }
 {
     match walk {
-        None => Val::Set(ValueSet::empty(alloc)),
+        None => ValRef::Set(Literals::Empty),
         Some(walk) => match place_of(Operand::of(index)) {
-            Err(why) => Val::Undefined(why),
-            Ok(place) => element_or_none(alloc, edge_at(walk, place)),
+            Err(why) => ValRef::Undefined(why),
+            Ok(place) => element_or_none(edge_at(walk, place)),
         },
     }
 }
@@ -144,11 +146,11 @@ fn edge_at(walk: &Walk, place: Option<usize>) -> Option<Id>
 }
 
 // An element, or the empty set.
-fn element_or_none(alloc: Global, id: Option<Id>) -> Val
-    ensures { result ≡ element_or_none id }
+fn element_or_none<'a>(id: Option<Id>) -> ValRef<'a>
+    ensures { value_seen result ≡ element_or_none id }
 {
     match id {
-        Some(id) => Val::Element(id),
-        None => Val::Set(ValueSet::empty(alloc)),
+        Some(id) => ValRef::Element(id),
+        None => ValRef::Set(Literals::Empty),
     }
 }

@@ -1,24 +1,16 @@
 ghost use Rattle.std.specs.Prelude.{◌≡◌};
-ghost use Rattle.gc_values.specs.Comparisons.{same_set, equal, ordered, ordered_sets, ordered_literals, test_of, member, member_of, included, compared};
+ghost use Rattle.gc_values.specs.Comparisons.{equal, ordered, ordered_sets, test_of, member, member_of, included, compared};
+ghost use Rattle.gc_values.specs.References.{literals_seen, value_seen};
 
+use crate::literals::Literals;
+use crate::rank::Rank;
 use crate::truth3::Truth3;
-use crate::val::Val;
-use gc_base::{Literal, ValueSet};
+use crate::val_ref::ValRef;
 use gc_expr::Comparison;
-use std::cmp::Ordering;
-
-/// What the order of two literals has to be.
-#[derive(Clone, Copy)]
-pub(crate) enum Rank {
-    Less,
-    LessEqual,
-    Greater,
-    GreaterEqual,
-}
 
 /// The truth of a comparison.
-pub(crate) fn compared(how: Comparison, a: &Val, b: &Val) -> Truth3
-    ensures { result ≡ compared how a.now b.now }
+pub(crate) fn compared(how: Comparison, a: &ValRef<'_>, b: &ValRef<'_>) -> Truth3
+    ensures { result ≡ compared how (value_seen a.now) (value_seen b.now) }
 {
     match how {
         Comparison::Equal => equal(a, b),
@@ -33,35 +25,35 @@ pub(crate) fn compared(how: Comparison, a: &Val, b: &Val) -> Truth3
 }
 
 // `=`
-fn equal(a: &Val, b: &Val) -> Truth3
-    ensures { result ≡ equal a.now b.now }
+fn equal(a: &ValRef<'_>, b: &ValRef<'_>) -> Truth3
+    ensures { result ≡ equal (value_seen a.now) (value_seen b.now) }
 {
     match (a, b) {
-        (Val::Undefined(_), _) | (_, Val::Undefined(_)) => Truth3::Unknown,
-        (Val::Set(a), Val::Set(b)) => Truth3::told(a.as_slice() == b.as_slice()),
-        (Val::Element(a), Val::Element(b)) => Truth3::told(a == b),
+        (ValRef::Undefined(_), _) | (_, ValRef::Undefined(_)) => Truth3::Unknown,
+        (ValRef::Set(a), ValRef::Set(b)) => Truth3::told(a.is(b)),
+        (ValRef::Element(a), ValRef::Element(b)) => Truth3::told(a == b),
         _ => Truth3::No,
     }
 }
 
 // `<` and its kin.
-fn ordered(rank: Rank, a: &Val, b: &Val) -> Truth3
-    ensures { result ≡ ordered (test_of rank) a.now b.now }
+fn ordered(rank: Rank, a: &ValRef<'_>, b: &ValRef<'_>) -> Truth3
+    ensures { result ≡ ordered (test_of rank) (value_seen a.now) (value_seen b.now) }
 {
     match (a, b) {
-        (Val::Set(a), Val::Set(b)) => ordered_sets(rank, a.as_slice(), b.as_slice()),
+        (ValRef::Set(a), ValRef::Set(b)) => ordered_sets(rank, a, b),
         _ => Truth3::Unknown,
     }
 }
 
-fn ordered_sets(rank: Rank, a: &[Literal], b: &[Literal]) -> Truth3
-    ensures { result ≡ ordered_sets (test_of rank) a.now b.now }
+fn ordered_sets(rank: Rank, a: &Literals<'_>, b: &Literals<'_>) -> Truth3
+    ensures { result ≡ ordered_sets (test_of rank) (literals_seen a.now) (literals_seen b.now) }
 {
     match (a.split_first(), b.split_first()) {
         (None, _) | (_, None) => Truth3::No,
-        (Some((first, others)), Some((second, more))) => {
-            if others.is_empty() && more.is_empty() {
-                ordered_literals(rank, first, second)
+        (Some(a), Some(b)) => {
+            if a.rest.is_empty() && b.rest.is_empty() {
+                a.literal.ordered(rank, &b.literal)
             } else {
                 Truth3::Unknown
             }
@@ -69,50 +61,24 @@ fn ordered_sets(rank: Rank, a: &[Literal], b: &[Literal]) -> Truth3
     }
 }
 
-// Two literals are ordered where they are of one kind.
-fn ordered_literals(rank: Rank, a: &Literal, b: &Literal) -> Truth3
-    ensures { result ≡ ordered_literals (test_of rank) a.now b.now }
-{
-    match (a, b) {
-        (Literal::Truth(_), Literal::Truth(_))
-        | (Literal::Number(_), Literal::Number(_))
-        | (Literal::Text(_), Literal::Text(_)) => Truth3::told(rank.holds(a.cmp(b))),
-        _ => Truth3::Unknown,
-    }
-}
-
-impl Rank {
-    // Whether an order is one of these.
-    fn holds(self, order: Ordering) -> bool
-        ensures { result ≡ test_of self order }
-    {
-        match self {
-            Rank::Less => order.is_lt(),
-            Rank::LessEqual => order.is_le(),
-            Rank::Greater => order.is_gt(),
-            Rank::GreaterEqual => order.is_ge(),
-        }
-    }
-}
-
 // `IN`
-fn member(a: &Val, b: &Val) -> Truth3
-    ensures { result ≡ member a.now b.now }
+fn member(a: &ValRef<'_>, b: &ValRef<'_>) -> Truth3
+    ensures { result ≡ member (value_seen a.now) (value_seen b.now) }
 {
     match (a, b) {
-        (Val::Set(a), Val::Set(b)) => member_of(a.as_slice(), b),
+        (ValRef::Set(a), ValRef::Set(b)) => member_of(a, b),
         _ => Truth3::Unknown,
     }
 }
 
-fn member_of(values: &[Literal], set: &ValueSet) -> Truth3
-    ensures { result ≡ member_of values.now set.now }
+fn member_of(values: &Literals<'_>, set: &Literals<'_>) -> Truth3
+    ensures { result ≡ member_of (literals_seen values.now) (literals_seen set.now) }
 {
     match values.split_first() {
         None => Truth3::No,
-        Some((value, others)) => {
-            if others.is_empty() {
-                Truth3::told(set.contains(value))
+        Some(first) => {
+            if first.rest.is_empty() {
+                Truth3::told(set.has(&first.literal))
             } else {
                 Truth3::Unknown
             }
@@ -121,11 +87,11 @@ fn member_of(values: &[Literal], set: &ValueSet) -> Truth3
 }
 
 // `SUBSET`
-fn included(a: &Val, b: &Val) -> Truth3
-    ensures { result ≡ included a.now b.now }
+fn included(a: &ValRef<'_>, b: &ValRef<'_>) -> Truth3
+    ensures { result ≡ included (value_seen a.now) (value_seen b.now) }
 {
     match (a, b) {
-        (Val::Set(a), Val::Set(b)) => Truth3::told(a.subset_of(b)),
+        (ValRef::Set(a), ValRef::Set(b)) => Truth3::told(a.subset_of(b)),
         _ => Truth3::Unknown,
     }
 }

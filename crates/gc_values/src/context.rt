@@ -7,14 +7,12 @@ use crate::reads::{Made, MadeList, Reads};
 use gc_base::Sym;
 use gc_ppg::{Graph, GraphList};
 use gc_rows::{Datum, RowView};
-use std::alloc::Global;
 use std::marker::Model;
 
 /// What an expression is read on: a row, graphs by number, which of them each variable is read in,
-/// and in a WHEN the variables of the CONSTRUCT. It carries the allocator of what is made.
+/// and in a WHEN the variables of the CONSTRUCT.
 #[derive(Drop)]
 pub(crate) struct Context<'a> {
-    pub alloc: Global,
     pub row: &'a RowView<'a>,
     pub reads: &'a Reads,
     pub graphs: &'a GraphList,

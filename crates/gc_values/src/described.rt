@@ -1,17 +1,19 @@
-ghost use Rattle.std.specs.Prelude.{◌≡◌, IfOk, None};
+ghost use Rattle.std.specs.Prelude.{◌≡◌, None};
 ghost use Rattle.std.specs.Option.{option_copied};
 ghost use Rattle.gc_expr.specs.Views.{numbered_expr};
 ghost use Rattle.gc_values.specs.Descriptions.{node_description, edge_description, path_description, described_in, description_made, variable_described, value_described, expr_described, property_of, label_truth, values_seen};
+ghost use Rattle.gc_values.specs.References.{literals_seen, value_seen};
 
 use crate::context::Context;
+use crate::literals::Literals;
 use crate::reads::Made;
 use crate::truth3::Truth3;
-use crate::val::{Val, Why};
-use gc_base::{Duplicate, Id, LabelSet, Memory, Name, Properties, Steps, Sym, ValueSet};
+use crate::val::Why;
+use crate::val_ref::ValRef;
+use gc_base::{Id, LabelSet, Name, Properties, Steps, Sym};
 use gc_expr::{Expr, ExprNode};
 use gc_ppg::Graph;
 use gc_rows::Datum;
-use std::alloc::Global;
 use std::marker::Model;
 use std::sync::ledger::Ledger;
 
@@ -133,10 +135,10 @@ pub(crate) fn variable_described<'a, L: Ledger>(
 pub(crate) fn expr_described<'a, L: Ledger>(
     context: &'a Context<'_>,
     expr: &Expr,
-    value: &Val,
+    value: &ValRef<'_>,
     steps: &mut Steps<L>,
 ) -> Seen<'a>
-    ensures { result ≡ expr_described context.now (numbered_expr expr.now) value.now }
+    ensures { result ≡ expr_described context.now (numbered_expr expr.now) (value_seen value.now) }
 {
     match &expr.node {
         ExprNode::Var(var) => variable_described(context, *var, steps),
@@ -149,64 +151,64 @@ pub(crate) fn expr_described<'a, L: Ledger>(
 // A node of a graph as a value.
 fn node_value_described<'a, L: Ledger>(
     graph: Option<&'a Graph>,
-    value: &Val,
+    value: &ValRef<'_>,
     steps: &mut Steps<L>,
 ) -> Seen<'a>
-    ensures { result ≡ value_described (node_description (option_copied graph.entry)) value.now }
+    ensures { result ≡ value_described (node_description (option_copied graph.entry)) (value_seen value.now) }
 {
     match value {
-        Val::Undefined(why) => Err(*why),
-        Val::Element(id) => Ok(node_described(graph, *id, steps)),
-        Val::Set(_) | Val::Walked => Ok(None),
+        ValRef::Undefined(why) => Err(*why),
+        ValRef::Element(id) => Ok(node_described(graph, *id, steps)),
+        ValRef::Set(_) | ValRef::Walked => Ok(None),
     }
 }
 
 // An edge of a graph as a value.
 fn edge_value_described<'a, L: Ledger>(
     graph: Option<&'a Graph>,
-    value: &Val,
+    value: &ValRef<'_>,
     steps: &mut Steps<L>,
 ) -> Seen<'a>
-    ensures { result ≡ value_described (edge_description (option_copied graph.entry)) value.now }
+    ensures { result ≡ value_described (edge_description (option_copied graph.entry)) (value_seen value.now) }
 {
     match value {
-        Val::Undefined(why) => Err(*why),
-        Val::Element(id) => Ok(edge_described(graph, *id, steps)),
-        Val::Set(_) | Val::Walked => Ok(None),
+        ValRef::Undefined(why) => Err(*why),
+        ValRef::Element(id) => Ok(edge_described(graph, *id, steps)),
+        ValRef::Set(_) | ValRef::Walked => Ok(None),
     }
 }
 
 // A value that has no labels and properties.
-fn nothing_described<'a>(value: &Val) -> Seen<'a>
-    ensures { result ≡ value_described (λ id. None) value.now }
+fn nothing_described<'a>(value: &ValRef<'_>) -> Seen<'a>
+    ensures { result ≡ value_described (λ id. None) (value_seen value.now) }
 {
     match value {
-        Val::Undefined(why) => Err(*why),
-        Val::Element(_) | Val::Set(_) | Val::Walked => Ok(None),
+        ValRef::Undefined(why) => Err(*why),
+        ValRef::Element(_) | ValRef::Set(_) | ValRef::Walked => Ok(None),
     }
 }
 
 /// The set of a property, which is empty where it is not there.
-pub(crate) fn property_of(alloc: Global, seen: &Seen<'_>, name: &Name) -> Result<Val, Memory>
-    ensures { IfOk result (λ v. v ≡ property_of seen.now name.now) }
+pub(crate) fn property_of<'a>(seen: Seen<'a>, name: &Name) -> ValRef<'a>
+    ensures { value_seen result ≡ property_of seen.entry name.now }
 {
     match seen {
-        Err(why) => Ok(Val::Undefined(*why)),
-        Ok(seen) => Ok(Val::Set(values_in(alloc, seen, name)?)),
+        Err(why) => ValRef::Undefined(why),
+        Ok(seen) => ValRef::Set(values_in(seen, name)),
     }
 }
 
-// A copy of the values of a property.
-fn values_in(alloc: Global, seen: &Option<Described<'_>>, name: &Name) -> Result<ValueSet, Memory>
-    ensures { IfOk result (λ values. values ≡ values_seen seen.now name.now) }
+// The values of a property.
+fn values_in<'a>(seen: Option<Described<'a>>, name: &Name) -> Literals<'a>
+    ensures { literals_seen result ≡ values_seen seen.entry name.now }
 {
     let found = match seen {
         Some(seen) => seen.properties.get(name),
         None => None,
     };
     match found {
-        Some(values) => values.copy(),
-        None => Ok(ValueSet::empty(alloc)),
+        Some(values) => Literals::Many(values),
+        None => Literals::Empty,
     }
 }
 

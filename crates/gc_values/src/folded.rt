@@ -1,9 +1,10 @@
-ghost use Rattle.std.specs.Prelude.{◌≡◌, drop, IfOk, OnOk};
+ghost use Rattle.std.specs.Prelude.{◌≡◌, drop};
 ghost use Rattle.gc_values.specs.ExprValues.{first_folded};
+ghost use Rattle.gc_values.specs.References.{value_seen};
 
+use crate::literals::Literals;
 use crate::val::Val;
-use gc_base::{Duplicate, Memory, ValueSet};
-use std::alloc::Global;
+use crate::val_ref::ValRef;
 use std::marker::Model;
 
 /// The values of the aggregates that an evaluation has not come to yet.
@@ -21,24 +22,24 @@ impl<'a> Model for Folded<'a> {
     ghost view = { λ f. f.rest.now };
 }
 
-impl Folded<'_> {
+impl<'a> Folded<'a> {
     /// All of these values.
-    pub(crate) fn of(values: &[Val]) -> Folded<'_>
+    pub(crate) fn of(values: &'a [Val]) -> Folded<'a>
         ensures { result ≡ values.now }
     {
         Folded { rest: values }
     }
 
     /// The first value, which is then taken; the empty set where there is none.
-    pub(crate) fn next(&mut self, alloc: Global) -> Result<Val, Memory>
-        ensures value { IfOk result (λ v. v ≡ first_folded self.old) }
-        ensures rest { OnOk result (self.new ≡ drop 1 self.old) }
+    pub(crate) fn next(&mut self) -> ValRef<'a>
+        ensures value { value_seen result ≡ first_folded self.old }
+        ensures rest { self.new ≡ drop 1 self.old }
     {
         match self.rest.split_first() {
-            None => Ok(Val::Set(ValueSet::empty(alloc))),
+            None => ValRef::Set(Literals::Empty),
             Some((first, rest)) => {
                 self.rest = rest;
-                first.copy()
+                ValRef::of(first)
             }
         }
     }

@@ -12,12 +12,16 @@ mod described;
 mod folded;
 mod graphs;
 mod laws;
+mod literal_ref;
+mod literals;
 mod mentioning;
 mod numbers;
+mod rank;
 mod reads;
 mod truth3;
 mod truths;
 mod val;
+mod val_ref;
 mod values;
 
 pub use graphs::{own_graph, walk_graph};

@@ -1,10 +1,13 @@
-ghost use Rattle.std.specs.Prelude.{◌≡◌, IfOk};
+ghost use Rattle.std.specs.Prelude.{◌≡◌};
 ghost use Rattle.gc_values.specs.Arithmetic.{fitting, one, result_of, number_value, operand_of, numbers_of, operated, negated, sum_operation, product_operation};
+ghost use Rattle.gc_values.specs.declared.val.Val.TheVariants.{Set};
+ghost use Rattle.gc_values.specs.References.{literal_seen, literals_seen, value_seen};
 
-use crate::val::{Val, Why, single};
-use gc_base::{Literal, Memory, ValueSet};
+use crate::literal_ref::LiteralRef;
+use crate::literals::Literals;
+use crate::val::Why;
+use crate::val_ref::ValRef;
 use gc_expr::ProductOp;
-use std::alloc::Global;
 
 /// What a value is as an operand.
 #[derive(Clone, Copy)]
@@ -31,25 +34,25 @@ pub(crate) enum Operation {
 
 impl Operand {
     /// What a value is as an operand.
-    pub(crate) fn of(value: &Val) -> Operand
-        ensures { result ≡ operand_of value.now }
+    pub(crate) fn of(value: &ValRef<'_>) -> Operand
+        ensures { result ≡ operand_of (value_seen value.now) }
     {
         match value {
-            Val::Undefined(why) => Operand::Missing(*why),
-            Val::Set(values) => Operand::of_literals(values.as_slice()),
-            Val::Element(_) | Val::Walked => Operand::Other,
+            ValRef::Undefined(why) => Operand::Missing(*why),
+            ValRef::Set(values) => Operand::of_literals(values),
+            ValRef::Element(_) | ValRef::Walked => Operand::Other,
         }
     }
 
     // What a set is as an operand.
-    fn of_literals(values: &[Literal]) -> Operand
-        ensures { result ≡ operand_of (Val.Set values.now) }
+    fn of_literals(values: &Literals<'_>) -> Operand
+        ensures { result ≡ operand_of (Set (literals_seen values.now)) }
     {
         match values.split_first() {
             None => Operand::Empty,
-            Some((first, rest)) => {
-                if rest.is_empty() {
-                    Operand::of_literal(first)
+            Some(first) => {
+                if first.rest.is_empty() {
+                    Operand::of_literal(&first.literal)
                 } else {
                     Operand::Other
                 }
@@ -58,12 +61,12 @@ impl Operand {
     }
 
     // What a single literal is as an operand.
-    fn of_literal(literal: &Literal) -> Operand
-        ensures { result ≡ operand_of (one literal.now) }
+    fn of_literal(literal: &LiteralRef<'_>) -> Operand
+        ensures { result ≡ operand_of (one (literal_seen literal.now)) }
     {
         match literal {
-            Literal::Number(number) => Operand::Number(*number),
-            Literal::Truth(_) | Literal::Text(_) => Operand::Other,
+            LiteralRef::Number(number) => Operand::Number(*number),
+            LiteralRef::Truth(_) | LiteralRef::Text(_) => Operand::Other,
         }
     }
 }
@@ -92,13 +95,13 @@ impl Operation {
     }
 
     /// The value of the operation on two operands.
-    pub(crate) fn on(self, alloc: Global, a: &Val, b: &Val) -> Result<Val, Memory>
-        ensures { IfOk result (λ v. v ≡ operated self a.now b.now) }
+    pub(crate) fn on<'a>(self, a: &ValRef<'a>, b: &ValRef<'a>) -> ValRef<'a>
+        ensures { value_seen result ≡ operated self (value_seen a.now) (value_seen b.now) }
     {
         match two_numbers(Operand::of(a), Operand::of(b)) {
-            Err(why) => Ok(Val::Undefined(why)),
-            Ok(None) => Ok(Val::Set(ValueSet::empty(alloc))),
-            Ok(Some((m, n))) => number(alloc, self.result(m, n)),
+            Err(why) => ValRef::Undefined(why),
+            Ok(None) => ValRef::Set(Literals::Empty),
+            Ok(Some((m, n))) => number(self.result(m, n)),
         }
     }
 
@@ -141,24 +144,24 @@ fn two_numbers(a: Operand, b: Operand) -> Result<Option<(i64, i64)>, Why>
 }
 
 /// The value of an operand with the other sign.
-pub(crate) fn negated(alloc: Global, a: &Val) -> Result<Val, Memory>
-    ensures { IfOk result (λ v. v ≡ negated a.now) }
+pub(crate) fn negated<'a>(a: &ValRef<'_>) -> ValRef<'a>
+    ensures { value_seen result ≡ negated (value_seen a.now) }
 {
     match Operand::of(a) {
-        Operand::Missing(why) => Ok(Val::Undefined(why)),
-        Operand::Empty => Ok(Val::Set(ValueSet::empty(alloc))),
-        Operand::Number(n) => number(alloc, fitting(n.checked_neg())),
-        Operand::Other => Ok(Val::Undefined(Why::WrongKind)),
+        Operand::Missing(why) => ValRef::Undefined(why),
+        Operand::Empty => ValRef::Set(Literals::Empty),
+        Operand::Number(n) => number(fitting(n.checked_neg())),
+        Operand::Other => ValRef::Undefined(Why::WrongKind),
     }
 }
 
 /// The set of a number, or the reason why there is none.
-pub(crate) fn number(alloc: Global, number: Result<i64, Why>) -> Result<Val, Memory>
-    ensures { IfOk result (λ v. v ≡ number_value number) }
+pub(crate) fn number<'a>(number: Result<i64, Why>) -> ValRef<'a>
+    ensures { value_seen result ≡ number_value number }
 {
     match number {
-        Ok(number) => single(alloc, Literal::Number(number)),
-        Err(why) => Ok(Val::Undefined(why)),
+        Ok(number) => ValRef::Set(Literals::One(LiteralRef::Number(number))),
+        Err(why) => ValRef::Undefined(why),
     }
 }
 

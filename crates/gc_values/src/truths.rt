@@ -4,18 +4,18 @@ ghost use Rattle.std.specs.Prelude.{◌≡◌, [], map, IfOk, slice_get};
 ghost use Rattle.gc_expr.specs.Trees.{row};
 ghost use Rattle.gc_expr.specs.Views.{numbered_expr};
 ghost use Rattle.gc_values.specs.Contexts.{Context};
-ghost use Rattle.gc_values.specs.Descriptions.{expr_described};
 ghost use Rattle.gc_values.specs.ExprValues.{value_of};
+ghost use Rattle.gc_values.specs.References.{value_seen};
 ghost use Rattle.gc_values.specs.ExprTruths.{answered, truth_of, all_of, any_of};
 
 use crate::compared::compared;
 use crate::context::Context;
-use crate::described::{Seen, expr_described, label_truth, variable_described};
+use crate::described::label_truth;
 use crate::folded::Folded;
 use crate::reads::{MadeList, Reads};
 use crate::truth3::Truth3;
-use crate::val::Val;
-use crate::values::value_of;
+use crate::val_ref::ValRef;
+use crate::values::{described, value_of};
 use gc_base::{Memory, Steps};
 use gc_expr::{Expr, ExprList, ExprNode};
 use gc_ppg::GraphList;
@@ -26,7 +26,7 @@ use std::sync::ledger::Ledger;
 /// The truth of a condition on a row. `answers` has the answers to the EXISTS queries beside it, by
 /// their numbers; one that is not told is unknown. What is no condition is unknown.
 pub fn truth<L: Ledger>(
-    alloc: Global,
+    _alloc: Global,
     expr: &Expr,
     row: &RowView<'_>,
     reads: &Reads,
@@ -39,38 +39,36 @@ pub fn truth<L: Ledger>(
         IfOk result (λ t. t ≡ truth_of ctx answers.now (numbered_expr expr.now)) }
 {
     let context = Context {
-        alloc,
         row,
         reads,
         graphs,
         made,
     };
-    truth_of(&context, expr, answers, steps)
+    Ok(truth_of(&context, expr, answers, steps))
 }
 
 #[cycle(truth)]
-fn truth_of<L: Ledger>(
-    context: &Context<'_>,
-    expr: &Expr,
+fn truth_of<'a, L: Ledger>(
+    context: &'a Context<'_>,
+    expr: &'a Expr,
     answers: &[bool],
     steps: &mut Steps<L>,
-) -> Result<Truth3, Memory>
-    ensures { IfOk result (λ t. t ≡ truth_of context.now answers.now (numbered_expr expr.now)) }
+) -> Truth3
+    ensures { result ≡ truth_of context.now answers.now (numbered_expr expr.now) }
 {
     match &expr.node {
         ExprNode::Labelled(of, label) => {
-            let value = plain_value(context, of, steps)?;
-            Ok(label_truth(&expr_described(context, of, &value, steps), label))
+            label_truth(&described(context, of, &mut Folded::of(&[]), steps), label)
         }
         ExprNode::Compare(how, left, right) => {
-            let left = plain_value(context, left, steps)?;
-            let right = plain_value(context, right, steps)?;
-            Ok(compared(*how, &left, &right))
+            let left = plain_value(context, left, steps);
+            let right = plain_value(context, right, steps);
+            compared(*how, &left, &right)
         }
-        ExprNode::Not(of) => Ok(truth_of(context, of, answers, steps)?.denied()),
+        ExprNode::Not(of) => truth_of(context, of, answers, steps).denied(),
         ExprNode::And(parts) => all_of(context, parts, answers, steps),
         ExprNode::Or(parts) => any_of(context, parts, answers, steps),
-        ExprNode::Exists(number) => Ok(answered(answers, *number)),
+        ExprNode::Exists(number) => answered(answers, *number),
         ExprNode::Number(_)
         | ExprNode::Text(_)
         | ExprNode::Truth(_)
@@ -82,51 +80,51 @@ fn truth_of<L: Ledger>(
         | ExprNode::Aggregate(_, _)
         | ExprNode::Negate(_)
         | ExprNode::Sum(_, _)
-        | ExprNode::Product(_, _) => Ok(Truth3::Unknown),
+        | ExprNode::Product(_, _) => Truth3::Unknown,
     }
 }
 
 // All of the parts.
 #[cycle(truth)]
-fn all_of<L: Ledger>(
-    context: &Context<'_>,
-    parts: &ExprList,
+fn all_of<'a, L: Ledger>(
+    context: &'a Context<'_>,
+    parts: &'a ExprList,
     answers: &[bool],
     steps: &mut Steps<L>,
-) -> Result<Truth3, Memory>
-    ensures { IfOk result (λ t. t ≡ all_of context.now answers.now (row (map numbered_expr parts.now.items))) }
+) -> Truth3
+    ensures { result ≡ all_of context.now answers.now (row (map numbered_expr parts.now.items)) }
 {
     let mut all = Truth3::Yes;
     for part in parts {
-        all = all.both(truth_of(context, part, answers, steps)?);
+        all = all.both(truth_of(context, part, answers, steps));
     }
-    Ok(all)
+    all
 }
 
 // One of the parts.
 #[cycle(truth)]
-fn any_of<L: Ledger>(
-    context: &Context<'_>,
-    parts: &ExprList,
+fn any_of<'a, L: Ledger>(
+    context: &'a Context<'_>,
+    parts: &'a ExprList,
     answers: &[bool],
     steps: &mut Steps<L>,
-) -> Result<Truth3, Memory>
-    ensures { IfOk result (λ t. t ≡ any_of context.now answers.now (row (map numbered_expr parts.now.items))) }
+) -> Truth3
+    ensures { result ≡ any_of context.now answers.now (row (map numbered_expr parts.now.items)) }
 {
     let mut any = Truth3::No;
     for part in parts {
-        any = any.either(truth_of(context, part, answers, steps)?);
+        any = any.either(truth_of(context, part, answers, steps));
     }
-    Ok(any)
+    any
 }
 
 // The value of an operand, in which no aggregate has a value.
-fn plain_value<L: Ledger>(
-    context: &Context<'_>,
-    expr: &Expr,
+fn plain_value<'a, L: Ledger>(
+    context: &'a Context<'_>,
+    expr: &'a Expr,
     steps: &mut Steps<L>,
-) -> Result<Val, Memory>
-    ensures { IfOk result (λ v. v ≡ value_of context.now [] (numbered_expr expr.now)) }
+) -> ValRef<'a>
+    ensures { value_seen result ≡ value_of context.now [] (numbered_expr expr.now) }
 {
     value_of(context, expr, &mut Folded::of(&[]), steps)
 }

@@ -1,8 +1,4 @@
-ghost use Rattle.std.specs.Prelude.{◌≡◌, ◌∷◌, [], IfOk};
-ghost use Rattle.gc_values.specs.Arithmetic.{one, exact};
-
-use gc_base::{Duplicate, Id, Literal, Memory, Sequence, ValueSet};
-use std::alloc::Global;
+use gc_base::{Duplicate, Id, Memory, Sequence, ValueSet};
 
 /// Why an expression has no value.
 #[derive(Clone, Copy, Debug, PartialEq, Eq)]
@@ -40,13 +36,4 @@ impl Duplicate for Val {
             Val::Undefined(why) => Ok(Val::Undefined(*why)),
         }
     }
-}
-
-/// The set of one literal.
-pub(crate) fn single(alloc: Global, literal: Literal) -> Result<Val, Memory>
-    ensures { IfOk result (λ v. v ≡ one literal) }
-{
-    let mut values = ValueSet::empty(alloc);
-    values.insert(literal)?;
-    Ok(Val::Set(values))
 }
