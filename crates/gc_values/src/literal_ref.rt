@@ -1,10 +1,13 @@
 ghost use Rattle.std.specs.Prelude.{◌≡◌, IfOk};
+ghost use Rattle.std.specs.Ordering.{eq_by_cmp};
+ghost use Rattle.gc_base.specs.Literals.{kind_number, literal_order, text_order};
 ghost use Rattle.gc_values.specs.Comparisons.{ordered_literals, test_of};
 ghost use Rattle.gc_values.specs.References.{literal_seen, same_literal};
 
 use crate::rank::Rank;
 use crate::truth3::Truth3;
 use gc_base::{Duplicate, Literal, Memory, Str};
+use std::cmp::Ordering;
 
 /// A literal where it lies: in an expression, or in a set.
 #[derive(Clone, Copy)]
@@ -26,6 +29,28 @@ impl<'a> LiteralRef<'a> {
         }
     }
 
+    /// Their order.
+    pub(crate) fn order(&self, other: &LiteralRef<'_>) -> Ordering
+        ensures { result ≡ literal_order (literal_seen self.now) (literal_seen other.now) }
+    {
+        match (self, other) {
+            (LiteralRef::Truth(a), LiteralRef::Truth(b)) => a.cmp(b),
+            (LiteralRef::Number(a), LiteralRef::Number(b)) => a.cmp(b),
+            (LiteralRef::Text(a), LiteralRef::Text(b)) => (*a).cmp(*b),
+            _ => self.kind_number().cmp(&other.kind_number()),
+        }
+    }
+
+    fn kind_number(&self) -> u8
+        ensures { result ≡ kind_number (literal_seen self.now) }
+    {
+        match self {
+            LiteralRef::Truth(_) => 0,
+            LiteralRef::Number(_) => 1,
+            LiteralRef::Text(_) => 2,
+        }
+    }
+
     /// Whether two are the same.
     pub(crate) fn is(&self, other: &LiteralRef<'_>) -> bool
         ensures { result ≡ same_literal (literal_seen self.now) (literal_seen other.now) }
@@ -33,7 +58,7 @@ impl<'a> LiteralRef<'a> {
         match (self, other) {
             (LiteralRef::Truth(a), LiteralRef::Truth(b)) => a.cmp(b).is_eq(),
             (LiteralRef::Number(a), LiteralRef::Number(b)) => a.cmp(b).is_eq(),
-            (LiteralRef::Text(a), LiteralRef::Text(b)) => (*a).cmp(*b).is_eq(),
+            (LiteralRef::Text(a), LiteralRef::Text(b)) => same_text(a, b),
             _ => false,
         }
     }
@@ -60,4 +85,11 @@ impl<'a> LiteralRef<'a> {
             LiteralRef::Text(text) => Ok(Literal::Text(text.copy()?)),
         }
     }
+}
+
+// Whether two texts are the same. Texts of two lengths are told apart at once.
+fn same_text(a: &Str, b: &Str) -> bool
+    ensures { result ≡ eq_by_cmp text_order a.now b.now }
+{
+    a == b
 }

@@ -1,5 +1,5 @@
 ghost use Rattle.std.specs.Prelude.{◌≡◌, ◌∷◌, [], MatchOption, IfOk};
-ghost use Rattle.gc_base.specs.Ascending.{has, is_subset};
+ghost use Rattle.gc_base.specs.Ascending.{Ascends, has, is_subset};
 ghost use Rattle.gc_base.specs.Literals.{literal_order};
 ghost use Rattle.gc_values.specs.Comparisons.{same_set};
 ghost use Rattle.gc_values.specs.References.{literal_seen, literals_seen};
@@ -73,10 +73,7 @@ impl<'a> Literals<'a> {
         match self {
             Literals::Empty => false,
             Literals::One(only) => only.is(literal),
-            Literals::Many(values) => values
-                .as_slice()
-                .iter()
-                .any(|value| LiteralRef::of(value).is(literal)),
+            Literals::Many(values) => is_among(values.as_slice(), literal),
         }
     }
 
@@ -114,4 +111,14 @@ fn single(alloc: Global, literal: Literal) -> Result<ValueSet, Memory>
     let mut values = ValueSet::empty(alloc);
     values.insert(literal)?;
     Ok(values)
+}
+
+// Whether a literal is one of some that ascend.
+fn is_among(values: &[Literal], literal: &LiteralRef<'_>) -> bool
+    requires { Ascends literal_order values.now }
+    ensures { result ≡ has literal_order values.now (literal_seen literal.now) }
+{
+    values
+        .binary_search_by(|value| LiteralRef::of(value).order(literal))
+        .is_ok()
 }
