@@ -1,8 +1,9 @@
 //! Values and truths of expressions. Others rely on two calls: `value` gives the value of an
 //! expression on a row, and `truth` the three-valued truth of a condition, each exactly as the
 //! definitions say; and on the law that rows which agree on the variables in a condition give it one
-//! truth. `mentions` tells which these are. This crate knows of no query, no token and no group: the
-//! values of aggregates and the answers to EXISTS queries are handed in.
+//! truth. `mentions` tells which these are. Values are read where they lie, in the graph, the row or
+//! the expression: a condition makes none, and `value` copies its answer alone. This crate knows of no
+//! query, no token and no group: the values of aggregates and the answers to EXISTS queries are handed in.
 #![tactic(auto)]
 
 mod along;
