@@ -97,7 +97,7 @@ fn gathered(alloc: Global, rows: &[ElementRow]) -> Result<Vec<Group>, Memory>
     requires { IsSortedByKey (λ r. r.key) key_order rows.now }
     ensures { IfOk result (λ groups. AreGathered rows.now groups.items) }
 {
-    let mut groups = Vec::with_capacity(alloc, number_of_keys(rows))?;
+    let mut groups = Vec::new(alloc);
     let Some((first, rest)) = rows.split_first() else {
         return Ok(groups);
     };
@@ -112,15 +112,4 @@ fn gathered(alloc: Global, rows: &[ElementRow]) -> Result<Vec<Group>, Memory>
     }
     groups.push(last.finished(alloc))?;
     Ok(groups)
-}
-
-// How many keys follow one another in these rows, and one where there is no row. Only room is made by it.
-fn number_of_keys(rows: &[ElementRow]) -> usize {
-    let mut count = 1;
-    for i in 1..rows.len() {
-        if row_cmp(&rows[i - 1], &rows[i]).is_ne() {
-            count += 1;
-        }
-    }
-    count
 }

@@ -10,6 +10,6 @@ returns c =
     let left = drop c.loop-row.row-index rest in
     let all : rows ≡ c.in-Some.first.now ∷ rest = search rules in
     let ended : left ≡ [] = drop_of_length-le rest (omega arith) in
-    gathered_left rows rest rest c.in_ok-groups.groups.items done left c.push-2.new.self.items
-    c.in-Some.first.now c.in_ok-last.last c.loop-row.last all refl c.in_ok-groups.ensures.items ended c.in_ok-last.ensures
+    gathered_left rows rest rest c.new-groups.result.items done left c.push-2.new.self.items
+    c.in-Some.first.now c.in_ok-last.last c.loop-row.last all refl c.new-groups.ensures.items ended c.in_ok-last.ensures
     c.loop-row.invariant (c.in_ok-push-3.ensures.items ∙ ap (λ g. done ++ g ∷ []) c.finished-2.ensures) c.requires
