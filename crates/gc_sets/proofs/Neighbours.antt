@@ -1,5 +1,5 @@
 -- Neighbours of one identity, united where the identities do not fall.
-use Rattle.std.proofs.Common.{◌≡◌, ℕ, suc, ◌≤◌, ◌<◌, Bool, true, false, cond, not, ◌&&◌, ◌==◌, List, [], ◌∷◌, ◌++◌, fold, length, get_or, Option, Some, None, refl, sym, ap, ◌∙◌, subst, arith}
+use Rattle.std.proofs.Common.{◌≡◌, ℕ, suc, ◌≤◌, ◌<◌, Bool, true, false, cond, not, nat_lt, ◌&&◌, ◌==◌, List, [], ◌∷◌, ◌++◌, fold, length, get_or, Option, Some, None, refl, sym, ap, ◌∙◌, subst, arith}
 use Rattle.std.specs.List.{AllByRecursion, filter, find}
 use Rattle.std.specs.List.Sorted.{IsNonDecreasingBy, IsStableByKey}
 use Rattle.std.specs.Ordering.{nat_cmp, on, is_lt}
@@ -21,6 +21,12 @@ differs_below a b h k = grind (arith, nat_tests)
 
 below_less : (a b : ℕ) → a < b → nat_cmp a b ≡ Less
 below_less a b h = grind (arith, nat_tests)
+
+less_below : (a b : ℕ) → nat_cmp a b ≡ Less → a < b
+less_below a b h = grind (arith, nat_tests)
+
+lt_over : (k l n : ℕ) → k ≤ l → nat_lt l n ≡ true → k < n
+lt_over k l n h e = grind (arith, nat_tests)
 
 above_differs : (a b q : ℕ) → (a == q) ≡ true → a < b → (b == q) ≡ false
 above_differs a b q h k = grind (arith, nat_tests)
@@ -55,6 +61,14 @@ module _ {X : Type 0} (unite : X → X → X) (id_of : X → ℕ) where
   none_at [] x q t h = refl
   none_at (y ∷ ys) x q t h = ap (λ b. cond b (y ∷ at ys q) (at ys q)) (above_differs (id_of x) (id_of y) q t h.0) ∙ none_at ys x q t h.1
 
+  -- what is said of one identity where no later claim has it
+  said_alone : (x : X) (xs : List X) (q : ℕ) → AllByRecursion (λ y. id_of x < id_of y) xs → cond (id_of x == q) (Some x) (said xs q) ≡ said (x ∷ xs) q
+  said_alone x xs q h =
+      elim (id_of x == q) as (λ b. (id_of x == q) ≡ b → cond b (Some x) (said xs q) ≡ joined unite (cond b (x ∷ at xs q) (at xs q))) [
+        | true ↦ λ t. ap (λ ys. Some (fold unite x ys)) (sym (none_at xs x q t h))
+        | false ↦ λ t. refl
+      ] refl
+
   module _ (same_id : (a b : X) → id_of (unite a b) ≡ id_of a) where
     -- what a second claim says, and then the rest, is what all say
     said_united : (x y : X) (ys : List X) (q : ℕ) → (id_of y == id_of x) ≡ true → said (unite x y ∷ ys) q ≡ said (x ∷ y ∷ ys) q
@@ -65,14 +79,6 @@ module _ {X : Type 0} (unite : X → X → X) (id_of : X → ℕ) where
           | false ↦ refl
         ]
         ∙ (λ i. joined unite (cond (id_of x == q) (x ∷ cond (sym (alike (id_of y) (id_of x) q t) i) (y ∷ at ys q) (at ys q)) (cond (sym (alike (id_of y) (id_of x) q t) i) (y ∷ at ys q) (at ys q)))))
-
-    -- what is said of one identity where no later claim has it
-    said_alone : (x : X) (xs : List X) (q : ℕ) → AllByRecursion (λ y. id_of x < id_of y) xs → cond (id_of x == q) (Some x) (said xs q) ≡ said (x ∷ xs) q
-    said_alone x xs q h =
-        elim (id_of x == q) as (λ b. (id_of x == q) ≡ b → cond b (Some x) (said xs q) ≡ joined unite (cond b (x ∷ at xs q) (at xs q))) [
-          | true ↦ λ t. ap (λ ys. Some (fold unite x ys)) (sym (none_at xs x q t h))
-          | false ↦ λ t. refl
-        ] refl
 
     above_all : (x y : X) (ys : List X) → (id_of y == id_of x) ≡ false → AllByRecursion (λ z. id_of x ≤ id_of z) (y ∷ ys) → AllByRecursion (λ z. id_of y ≤ id_of z) ys
         → AllByRecursion (λ z. id_of x < id_of z) (y ∷ ys)
@@ -128,6 +134,47 @@ module _ {X : Type 0} (unite : X → X → X) (id_of : X → ℕ) where
         let made : all ≡ united_from first more =
         is ∙ (ap (λ xs. done ++ united_from last xs) (sym ended) ∙ (so_far ∙ λ i. empty i ++ united_from first (same i))) in
         subst (λ xs. IsGathered unite id_of xs all) (sym begun) (subst (IsGathered unite id_of (first ∷ more)) (sym made) (gathered_from first more (subst Rise begun up)))
+
+  -- claims that ascend are gathered as they stand
+  all_below : (x : X) (xs : List X) → AllByRecursion (λ y. nat_cmp (id_of x) (id_of y) ≡ Less) xs → AllByRecursion (λ y. id_of x < id_of y) xs
+  all_below x xs h = AllByRecursion-weaker _ _ (λ y l. less_below (id_of x) (id_of y) l) xs h
+
+  said_apart : (xs : List X) (q : ℕ) → Ascends (on id_of nat_cmp) xs → found xs q ≡ said xs q
+  said_apart [] q up = refl
+  said_apart (x ∷ xs) q up = ap (λ o. cond (id_of x == q) (Some x) o) (said_apart xs q up.1) ∙ said_alone x xs q (all_below x xs up.0)
+
+  pub gathered_apart : (xs : List X) → Ascends (on id_of nat_cmp) xs → IsGathered unite id_of xs xs
+  gathered_apart xs up = record { ascend = up; said = λ q. said_apart xs q up }
+
+  -- whether each identity is above the one before it, the first above this
+  abbrev pub rises_from : ℕ → List X → Bool
+  rises_from k [] = true
+  rises_from k (x ∷ xs) = cond (nat_lt k (id_of x)) (rises_from (id_of x) xs) false
+
+  risen : (k l : ℕ) (xs : List X) → k ≤ l → rises_from l xs ≡ true → AllByRecursion (λ y. k < id_of y) xs × Ascends (on id_of nat_cmp) xs
+  risen k l [] h t = (tt, tt)
+  risen k l (x ∷ xs) h t =
+      elim (nat_lt l (id_of x)) as (λ b. nat_lt l (id_of x) ≡ b → cond b (rises_from (id_of x) xs) false ≡ true → AllByRecursion (λ y. k < id_of y) (x ∷ xs) × Ascends (on id_of nat_cmp) (x ∷ xs)) [
+        | true ↦ λ e u.
+            let over : k < id_of x = lt_over k l (id_of x) h e in
+            let later = risen (id_of x) (id_of x) xs (omega arith) u in (
+              (over, AllByRecursion-weaker _ _ (λ y m. let n : id_of x < id_of y = m in omega (arith, over, n)) xs later.0),
+              (AllByRecursion-weaker _ _ (λ y m. below_less (id_of x) (id_of y) m) xs later.0, later.1),
+            )
+        | false ↦ λ e u. absurd (cc u)
+      ] refl t
+
+  ascends_risen : (x : X) (xs : List X) → rises_from (id_of x) xs ≡ true → Ascends (on id_of nat_cmp) (x ∷ xs)
+  ascends_risen x xs t =
+      let later = risen (id_of x) (id_of x) xs (omega arith) t in
+      (AllByRecursion-weaker _ _ (λ y m. below_less (id_of x) (id_of y) m) xs later.0, later.1)
+
+  -- and so is what a loop finds that goes over the claims after the first
+  pub ascends_left : (claims more rest : List X) (first : X) (k last : ℕ) → claims ≡ first ∷ more → rest ≡ [] → k ≡ id_of first
+      → rises_from last rest ≡ rises_from k more → Ascends (on id_of nat_cmp) claims
+  ascends_left claims more rest first k last begun ended is so_far =
+      let rises : rises_from (id_of first) more ≡ true = (λ i. rises_from (sym is i) more) ∙ (sym so_far ∙ ap (rises_from last) ended) in
+      subst (Ascends (on id_of nat_cmp)) (sym begun) (ascends_risen first more rises)
 
   pub gathered_none : IsGathered unite id_of [] []
   gathered_none = record { ascend = tt; said = λ q. refl }

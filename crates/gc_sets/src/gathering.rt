@@ -1,5 +1,7 @@
-ghost use Rattle.std.specs.Prelude.{IfOk};
+ghost use Rattle.std.specs.Prelude.{◌≡◌, true, IfOk};
 ghost use Rattle.std.specs.List.Sorted.{IsNonDecreasingBy};
+ghost use Rattle.std.specs.Ordering.{nat_cmp, on};
+ghost use Rattle.gc_base.specs.Ascending.{Ascends};
 ghost use Rattle.gc_sets.specs.Gathered.{IsGathered};
 
 use crate::claim::Claim;
@@ -10,8 +12,29 @@ use std::mem;
 pub(crate) fn gathered<T: Claim + Drop>(mut claims: Vec<T>) -> Result<Vec<T>, Memory>
     ensures { IfOk result (λ all. IsGathered T.united T.id_of claims.items all.items) }
 {
+    if ascend(&claims) {
+        return Ok(claims);
+    }
     claims.sort_by_key(|claim| claim.id())?;
     united(claims)
+}
+
+// Whether claims ascend as they come, each of another element. Then they are gathered as they stand.
+fn ascend<T: Claim>(claims: &[T]) -> bool
+    ensures { result ≡ true → Ascends (on T.id_of nat_cmp) claims.now }
+{
+    let Some((first, rest)) = claims.split_first() else {
+        return true;
+    };
+    let mut last = first.id();
+    for claim in rest {
+        let id = claim.id();
+        if id <= last {
+            return false;
+        }
+        last = id;
+    }
+    true
 }
 
 // The same, where the claims of each identity stand together. Only what is claimed again is copied.
