@@ -3,11 +3,12 @@ ghost use Rattle.std.specs.Option.{option_and_then, option_map};
 ghost use Rattle.gc_ppg.specs.declared.shape.Kind.TheVariants.{Edge as EdgeKind};
 ghost use Rattle.gc_spec.specs.PropertyGraph.{edge_at};
 ghost use Rattle.gc_build.specs.Claimed.{along_edge, both_ends, edge_claims, ends_by};
+ghost use Rattle.gc_build.specs.Makers.{AreEndMakers, IsMaker};
 ghost use Rattle.gc_build.specs.Makings.{identity_at};
 ghost use Rattle.gc_build.specs.Walks.{read_graph};
 
 use crate::elements::Claim;
-use crate::making::Making;
+use crate::making::{EndMakers, Making};
 use gc_base::{Duplicate, Id, Memory, Steps, Sym};
 use gc_build_descriptions::Description;
 use gc_build_numbers::Element;
@@ -33,12 +34,13 @@ impl Claim for EdgeInfo {
         claimed: &mut Vec<EdgeInfo>,
         making: &Making<'_>,
         variable: &Variable,
+        ends: &EndMakers<'_>,
         element: &Element,
         description: &Description,
         steps: &mut Steps<L>,
     ) -> Result<(), Memory> {
         let id = making.identity(&variable.grouping, element.number)?;
-        if let Some(ends) = element_ends(making, variable, element, steps)? {
+        if let Some(ends) = element_ends(making, variable, ends, element, steps)? {
             claimed.push(EdgeInfo {
                 id,
                 from: ends.from,
@@ -70,9 +72,11 @@ impl Model for Ends {
 fn element_ends<L: Ledger>(
     making: &Making<'_>,
     variable: &Variable,
+    ends: &EndMakers<'_>,
     element: &Element,
     steps: &mut Steps<L>,
 ) -> Result<Option<Ends>, Memory>
+    requires { AreEndMakers making.now variable.now.grouping ends.now }
     ensures { IfOk result (λ ends. ends ≡ ends_by making.now variable.now.var variable.now.grouping element.now) }
 {
     match &variable.grouping {
@@ -84,7 +88,7 @@ fn element_ends<L: Ledger>(
             source,
             target,
             terms: _,
-        } => row_ends(making, *source, *target, element),
+        } => row_ends(making, *source, *target, ends, element),
         Grouping::EachRow | Grouping::Walk | Grouping::Terms(_) => Ok(None),
     }
 }
@@ -111,14 +115,17 @@ fn row_ends(
     making: &Making<'_>,
     source: Sym,
     target: Sym,
+    ends: &EndMakers<'_>,
     element: &Element,
 ) -> Result<Option<Ends>, Memory>
+    requires source { IsMaker making.now source ends.now.source }
+    requires target { IsMaker making.now target ends.now.target }
     ensures { IfOk result (λ ends. ends ≡ both_ends (identity_at making.now source (unwrap_or (slice_get element.now.group.rows 0) 0))
         (identity_at making.now target (unwrap_or (slice_get element.now.group.rows 0) 0))) }
 {
     let place = first_row(element);
-    let from = making.identity_at(source, place)?;
-    let to = making.identity_at(target, place)?;
+    let from = making.identity_by_maker(source, &ends.source, place)?;
+    let to = making.identity_by_maker(target, &ends.target, place)?;
     match (from, to) {
         (Some(from), Some(to)) => Ok(Some(Ends { from, to })),
         _ => Ok(None),

@@ -1,5 +1,6 @@
 ghost use Rattle.std.specs.Prelude.{◌≡◌, ◌++◌, List, OnOk};
 ghost use Rattle.gc_build.specs.Claimed.{same_kind, claims_for, claims_of};
+ghost use Rattle.gc_build.specs.Makers.{AreEndMakers};
 ghost use Rattle.gc_build.specs.Makings.{Making as MakingSeen, descriptions_of};
 ghost use Rattle.gc_build_descriptions.specs.Faults.{elements_of};
 ghost use Rattle.gc_build_numbers.specs.declared.numbered.Element.{Element as ElementSeen};
@@ -7,7 +8,7 @@ ghost use Rattle.gc_build_recipe.specs.declared.variable.Variable.{Variable as V
 ghost use Rattle.gc_values.specs.Descriptions.{Description as DescriptionSeen};
 ghost use Rattle.gc_ppg.specs.declared.shape.Kind.{Kind as KindSeen};
 
-use crate::making::Making;
+use crate::making::{EndMakers, Making};
 use crate::standing::{Instances, is_claimed};
 use gc_base::{Memory, Steps};
 use gc_build_descriptions::Description;
@@ -36,15 +37,17 @@ pub(crate) trait Claim {
     fn is_of(k: Kind) -> bool
         ensures { result ≡ same_kind k kind };
 
-    // Adds what is claimed for an element of a variable.
+    // Adds what is claimed for an element of a variable, which stands between what these make.
     fn claim<L: Ledger>(
         claimed: &mut Vec<Self>,
         making: &Making<'_>,
         variable: &Variable,
+        ends: &EndMakers<'_>,
         element: &Element,
         description: &Description,
         steps: &mut Steps<L>,
     ) -> Result<(), Memory>
+        requires { AreEndMakers making.now variable.now.grouping ends.now }
         ensures { OnOk result (claimed.new.items ≡ claimed.old.items ++ claims making.now variable.now element.now description.now) };
 }
 
@@ -78,6 +81,7 @@ fn claim_all<T: Claim + Drop, L: Ledger>(
 {
     let elements = making.elements(variable.var);
     let own = kept.of_variable(variable.var);
+    let ends = making.end_makers(&variable.grouping);
     let mut descriptions = making.descriptions(variable.var);
     for element in elements {
         let Some((description, rest)) = descriptions.split_first() else {
@@ -85,7 +89,15 @@ fn claim_all<T: Claim + Drop, L: Ledger>(
         };
         descriptions = rest;
         if is_claimed(kept, variable.var, own, element) {
-            T::claim(claimed, making, variable, element, description, steps)?;
+            T::claim(
+                claimed,
+                making,
+                variable,
+                &ends,
+                element,
+                description,
+                steps,
+            )?;
         }
     }
     Ok(())

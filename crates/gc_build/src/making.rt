@@ -2,7 +2,7 @@ ghost use Rattle.std.specs.Prelude.{◌≡◌, ◌==◌, IfOk, slice_get};
 ghost use Rattle.std.specs.List.{find};
 ghost use Rattle.std.specs.Option.{option_and_then, option_copied};
 ghost use Rattle.gc_build_numbers.specs.Keys.{number_at, which_at};
-ghost use Rattle.gc_build.specs.Makers.{maker_of};
+ghost use Rattle.gc_build.specs.Makers.{AreEndMakers, IsMaker, maker_of};
 ghost use Rattle.gc_build.specs.Makings.{descriptions_of, identity_at, identity_by, identity_of};
 ghost use Rattle.gc_build_descriptions.specs.Faults.{elements_of};
 ghost use Rattle.gc_build.specs.Walks.{along_graph, read_graph};
@@ -44,6 +44,21 @@ impl<'a> Model for Making<'a> {
     ghost invariant = { λ m. m.reads.now ≡ read_graphs m.setting.now };
 }
 
+/// What makes the elements of a variable, if the CONSTRUCT has it: the variable, and its elements by their
+/// rows. It is looked up once for all elements.
+#[derive(Clone, Copy)]
+pub(crate) struct Maker<'a> {
+    pub variable: Option<&'a Variable>,
+    pub numbered: Option<&'a Numbered>,
+}
+
+/// What makes the elements at the ends of edges of a variable.
+#[derive(Clone, Copy)]
+pub(crate) struct EndMakers<'a> {
+    pub source: Maker<'a>,
+    pub target: Maker<'a>,
+}
+
 impl Making<'_> {
     /// The identity of an element that is grouped so and has a number. One that passes the limit is
     /// want of memory.
@@ -74,13 +89,52 @@ impl Making<'_> {
         }
     }
 
-    /// The same for the variable of a number, if the CONSTRUCT has it.
-    pub(crate) fn identity_at(&self, var: Sym, place: usize) -> Result<Option<Id>, Memory>
+    /// The same for the variable of a number, of which this makes the elements.
+    pub(crate) fn identity_by_maker(
+        &self,
+        var: Sym,
+        maker: &Maker<'_>,
+        place: usize,
+    ) -> Result<Option<Id>, Memory>
+        requires { IsMaker self.now var maker.now }
         ensures { IfOk result (λ id. id ≡ identity_at self.now var place) }
     {
-        match self.variable(var) {
+        let (Some(variable), Some(numbered)) = (maker.variable, maker.numbered) else {
+            return Ok(None);
+        };
+        match numbered.number_in(place) {
             None => Ok(None),
-            Some(variable) => self.identity_of(place, variable),
+            Some(number) => Ok(Some(self.identity(&variable.grouping, number)?)),
+        }
+    }
+
+    /// What makes the elements at the ends of those that are grouped so.
+    pub(crate) fn end_makers(&self, grouping: &Grouping) -> EndMakers<'_>
+        ensures { AreEndMakers self.now grouping.now result }
+    {
+        match grouping {
+            Grouping::Link {
+                source,
+                target,
+                terms: _,
+            } => EndMakers {
+                source: self.maker_at(*source),
+                target: self.maker_at(*target),
+            },
+            _ => EndMakers {
+                source: no_maker(),
+                target: no_maker(),
+            },
+        }
+    }
+
+    // What makes the elements of the variable of a number.
+    fn maker_at(&self, var: Sym) -> Maker<'_>
+        ensures { IsMaker self.now var result }
+    {
+        Maker {
+            variable: self.variable(var),
+            numbered: self.maker(var),
         }
     }
 
@@ -171,5 +225,12 @@ impl Making<'_> {
     {
         let setting = self.setting;
         setting.graphs.as_slice().get(number as usize)
+    }
+}
+
+fn no_maker<'a>() -> Maker<'a> {
+    Maker {
+        variable: None,
+        numbered: None,
     }
 }

@@ -2,7 +2,7 @@ ghost use Rattle.gc_ppg.specs.declared.shape.Kind.TheVariants.{Node as NodeKind}
 ghost use Rattle.gc_build.specs.Claimed.{node_claims};
 
 use crate::elements::Claim;
-use crate::making::Making;
+use crate::making::{EndMakers, Making};
 use gc_base::{Duplicate, Memory, Steps};
 use gc_build_descriptions::Description;
 use gc_build_numbers::Element;
@@ -27,6 +27,7 @@ impl Claim for NodeInfo {
         claimed: &mut Vec<NodeInfo>,
         making: &Making<'_>,
         variable: &Variable,
+        _ends: &EndMakers<'_>,
         element: &Element,
         description: &Description,
         _steps: &mut Steps<L>,

@@ -6,7 +6,7 @@ ghost use Rattle.gc_build.specs.Claimed.{key_walk, path_claims, walk_by};
 ghost use Rattle.gc_build.specs.Walks.{read_graph};
 
 use crate::elements::Claim;
-use crate::making::Making;
+use crate::making::{EndMakers, Making};
 use gc_base::{Duplicate, Id, Memory, Steps, Sym, Walk};
 use gc_build_descriptions::Description;
 use gc_build_numbers::Element;
@@ -33,6 +33,7 @@ impl Claim for PathInfo {
         claimed: &mut Vec<PathInfo>,
         making: &Making<'_>,
         variable: &Variable,
+        _ends: &EndMakers<'_>,
         element: &Element,
         description: &Description,
         steps: &mut Steps<L>,
