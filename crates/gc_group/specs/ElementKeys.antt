@@ -1,6 +1,8 @@
 -- Keys that are elements alone.
 use Rattle.std.specs.Prelude.{ℕ, List, [], ◌∷◌, Option, Some}
 use Rattle.gc_group.specs.declared.element_key.ElementKey.{ElementKey}
+use Rattle.gc_group.specs.declared.element_key.EndsKey.{EndsKey}
+use Rattle.gc_group.specs.declared.element_key.NodeKey.{NodeKey}
 use Rattle.gc_group.specs.declared.element_key.ElementKey.TheVariants as element
 use Rattle.gc_group.specs.declared.key.Key.{Key}
 use Rattle.gc_rows.specs.declared.datum.Datum.{Datum}
@@ -23,3 +25,10 @@ first_kind (element.Node id) = 0
 first_kind (element.Edge id) = 1
 first_kind (element.Stored id) = 2
 first_kind (element.Ends source target) = 0
+
+-- a node, or the two ends of an edge, as a key
+abbrev pub node_key : NodeKey → Key
+node_key key = record { parts = Some (Node key.node) ∷ [] }
+
+abbrev pub ends_key : EndsKey → Key
+ends_key key = record { parts = Some (Node key.source) ∷ Some (Node key.target) ∷ [] }

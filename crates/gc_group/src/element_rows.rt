@@ -4,7 +4,7 @@ ghost use Rattle.gc_group.specs.Gathered.{AreGathered, alone, keyed_rows};
 ghost use Rattle.gc_group.specs.Groups.{AreGroupsOf, key_order};
 ghost use Rattle.gc_group.specs.declared.key.Key.{Key};
 
-use crate::element_key::{ElementKey, element_key_cmp};
+use crate::element_key::OfElements;
 use crate::grouping::Group;
 use crate::row_numbers::RowNumbers;
 use gc_base::Memory;
@@ -15,30 +15,32 @@ use std::mem;
 
 /// The number of a row that has a key of elements alone, and the key. Contracts see the row and the key.
 #[derive(Debug, Drop)]
-pub struct ElementRow {
-    pub key: ElementKey,
+pub struct ElementRow<K: OfElements> {
+    pub key: K,
     pub row: u64,
 }
 
-impl Model for ElementRow {
-    ghost use Rattle.gc_group.specs.ElementKeys.{key_of};
+impl<K: OfElements> Model for ElementRow<K> {
     ghost use Rattle.gc_group.specs.Gathered.{KeyedRow};
 
     ghost Value = { KeyedRow };
 
-    ghost view = { λ r. record { key = key_of r.key; row = r.row } };
+    ghost view = { λ r. record { key = K.key_of r.key; row = r.row } };
 }
 
 /// The groups of rows whose keys are elements alone. It takes those that have a key, in order. Only a group gets a key
 /// with its parts.
-pub fn element_groups(alloc: Global, rows: Vec<ElementRow>) -> Result<Vec<Group>, Memory>
+pub fn element_groups<K: OfElements + Copy>(
+    alloc: Global,
+    rows: Vec<ElementRow<K>>,
+) -> Result<Vec<Group>, Memory>
     ensures { (keys : List (Option Key)) → rows.items ≡ keyed_rows keys → IfOk result (λ groups. AreGroupsOf keys groups.items) }
 {
     gathered(alloc, &sorted(rows)?)
 }
 
 // These rows by ascending keys; rows of one key stay in their order. Rows that ascend already are left as they are.
-fn sorted(mut rows: Vec<ElementRow>) -> Result<Vec<ElementRow>, Memory>
+fn sorted<K: OfElements + Copy>(mut rows: Vec<ElementRow<K>>) -> Result<Vec<ElementRow<K>>, Memory>
     ensures ascend { IfOk result (λ sorted. IsSortedByKey (λ r. r.key) key_order sorted.items) }
     ensures same { IfOk result (λ sorted. IsPermutation rows.items sorted.items) }
     ensures stable { IfOk result (λ sorted. IsStableByKey (λ r. r.key) key_order rows.items sorted.items) }
@@ -48,31 +50,30 @@ fn sorted(mut rows: Vec<ElementRow>) -> Result<Vec<ElementRow>, Memory>
 }
 
 // The order of the keys of two rows.
-fn row_cmp(a: &ElementRow, b: &ElementRow) -> Ordering
+fn row_cmp<K: OfElements>(a: &ElementRow<K>, b: &ElementRow<K>) -> Ordering
     ensures { result ≡ key_order a.now.key b.now.key }
 {
-    element_key_cmp(&a.key, &b.key)
+    a.key.order(&b.key)
 }
 
 // A group that further rows may join. Contracts see the group.
 #[derive(Drop)]
-struct Begun {
-    key: ElementKey,
+struct Begun<K: OfElements> {
+    key: K,
     rows: RowNumbers,
 }
 
-impl Model for Begun {
-    ghost use Rattle.gc_group.specs.ElementKeys.{key_of};
+impl<K: OfElements> Model for Begun<K> {
     ghost use Rattle.gc_group.specs.declared.grouping.Group.{Group};
 
     ghost Value = { Group };
 
-    ghost view = { λ g. record { key = key_of g.key; rows = g.rows } };
+    ghost view = { λ g. record { key = K.key_of g.key; rows = g.rows } };
 }
 
-impl Begun {
+impl<K: OfElements + Copy> Begun<K> {
     // A row alone as a group.
-    fn of(alloc: Global, row: &ElementRow) -> Result<Begun, Memory>
+    fn of(alloc: Global, row: &ElementRow<K>) -> Result<Begun<K>, Memory>
         ensures { IfOk result (λ group. group ≡ alone row.now) }
     {
         let mut rows = RowNumbers::new(alloc);
@@ -93,7 +94,10 @@ impl Begun {
 }
 
 // The groups of rows that ascend by their keys, so that those of one key stand together.
-fn gathered(alloc: Global, rows: &[ElementRow]) -> Result<Vec<Group>, Memory>
+fn gathered<K: OfElements + Copy>(
+    alloc: Global,
+    rows: &[ElementRow<K>],
+) -> Result<Vec<Group>, Memory>
     requires { IsSortedByKey (λ r. r.key) key_order rows.now }
     ensures { IfOk result (λ groups. AreGathered rows.now groups.items) }
 {
@@ -103,7 +107,7 @@ fn gathered(alloc: Global, rows: &[ElementRow]) -> Result<Vec<Group>, Memory>
     };
     let mut last = Begun::of(alloc, first)?;
     for row in rest {
-        if element_key_cmp(&last.key, &row.key).is_eq() {
+        if last.key.order(&row.key).is_eq() {
             last.rows.push(row.row)?;
         } else {
             let done = mem::replace(&mut last, Begun::of(alloc, row)?);

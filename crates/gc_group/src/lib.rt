@@ -15,7 +15,7 @@ mod listed;
 mod ranks;
 mod row_numbers;
 
-pub use element_key::ElementKey;
+pub use element_key::{ElementKey, EndsKey, NodeKey, OfElements};
 pub use element_rows::{ElementRow, element_groups};
 pub use folds::fold;
 pub use grouping::{Group, groups};

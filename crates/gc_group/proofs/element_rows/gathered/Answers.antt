@@ -3,7 +3,7 @@ use Rattle.gc_group.proofs.Gathering.{gathered_left}
 use Rattle.gc_group.proofs.element_rows.gathered.Goals as goal
 
 pub returns : goal.returns
-returns c =
+returns g c =
     let rows = c.args.rows.now in
     let rest = c.in-Some.rest.now in
     let done = c.loop-row.groups.items in

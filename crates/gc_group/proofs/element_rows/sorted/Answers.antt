@@ -7,9 +7,9 @@ use Rattle.gc_group.proofs.KeyOrder.{key_order_total}
 use Rattle.gc_group.proofs.element_rows.sorted.Goals as goal
 
 pub returns-clause-ascend : goal.returns-clause-ascend
-returns-clause-ascend c =
+returns-clause-ascend g c =
     c.in_ok-sort_by.ensures.sorted (λ x y. is_lt (key_order x.key y.key)) (ranks_by key_order_total (λ x. x.key)) (always_returns_same _ _ _ (λ a r f called. search rules))
 
 pub returns-clause-stable : goal.returns-clause-stable
-returns-clause-stable c =
+returns-clause-stable g c =
     c.sort_by.ensures.stable (λ x y. is_lt (key_order x.key y.key)) (ranks_by key_order_total (λ x. x.key)) (always_returns_same _ _ _ (λ a r f called. search rules))
