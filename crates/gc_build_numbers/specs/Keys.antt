@@ -93,11 +93,18 @@ key_by s before x k (by.Terms terms) place row = whole (map (term_part (on_row s
 key_by s before x k (by.Link source target terms) place row =
     whole (end_part before source place ∷ end_part before target place ∷ map (term_part (on_row s row)) terms)
 
--- whether rows are grouped by elements alone: by the one that a variable stands for, or by the ends of an edge
-abbrev pub is_by_elements : Grouping → Bool
-is_by_elements by.Bound = true
-is_by_elements (by.Link source target []) = true
-is_by_elements grouping = false
+-- whether rows are grouped by the element that a variable stands for, by that where it is a node, or by the ends of an edge alone
+abbrev pub is_bound : Grouping → Bool
+is_bound by.Bound = true
+is_bound grouping = false
+
+abbrev pub is_by_node : Kind → Grouping → Bool
+is_by_node kind.Node grouping = is_bound grouping
+is_by_node k grouping = false
+
+abbrev pub is_by_ends : Grouping → Bool
+is_by_ends (by.Link source target []) = true
+is_by_ends grouping = false
 
 -- the keys of rows, the first of which has this place
 abbrev pub keys_from : Setting → List Numbered → Variable → (place : ℕ) → List (List Binding) → List (Option Key)

@@ -1,15 +1,13 @@
-ghost use Rattle.std.specs.Prelude.{◌≡◌, ◌==◌, ◌++◌, ◌∷◌, [], true, List, IfOk, OnOk, is_some, map};
+ghost use Rattle.std.specs.Prelude.{◌≡◌, ◌==◌, ◌++◌, ◌∷◌, [], true, IfOk, OnOk, is_some, map};
 ghost use Rattle.std.specs.List.{find, list_all};
 ghost use Rattle.std.specs.Option.{option_and_then, option_copied, option_map};
 ghost use Rattle.gc_build_numbers.specs.Ends.{AreEnds};
-ghost use Rattle.gc_build_numbers.specs.Keys.{bound_key, is_by_elements, key_by, keys_of, number_in, single_key, term_part, walk_key, whole};
+ghost use Rattle.gc_build_numbers.specs.Keys.{bound_key, key_by, keys_of, number_in, single_key, term_part, walk_key, whole};
 ghost use Rattle.gc_build_numbers.specs.Readers.{terms_of};
-ghost use Rattle.gc_build_numbers.specs.Settings.{Setting, on_row};
+ghost use Rattle.gc_build_numbers.specs.Settings.{on_row};
 ghost use Rattle.gc_build_numbers.specs.WholeRows.{row_key};
 ghost use Rattle.gc_group.specs.ElementKeys.{key_of};
-ghost use Rattle.gc_group.specs.Gathered.{keyed_from, keyed_rows};
 ghost use Rattle.gc_rows.specs.Rows.{cells};
-ghost use Rattle.gc_build_numbers.specs.declared.numbered.Numbered.{Numbered};
 ghost use Rattle.gc_rows.specs.declared.datum.Datum.TheVariants.{Node};
 
 use crate::numbered::{Numbered, NumberedList};
@@ -17,7 +15,7 @@ use crate::setting::Setting;
 use crate::terms::{Reader, readers};
 use gc_base::{Duplicate, Id, Memory, Steps, Sym};
 use gc_build_recipe::{Grouping, Variable};
-use gc_group::{ElementKey, ElementRow, Key, KeyParts};
+use gc_group::{ElementKey, Key, KeyParts};
 use gc_ppg::Kind;
 use gc_rows::{Datum, RowView};
 use std::alloc::Global;
@@ -49,63 +47,15 @@ pub(crate) fn keys<L: Ledger>(
     Ok(keys)
 }
 
-/// The rows of the table that have a key for a variable, in order, where these keys are elements alone.
-pub(crate) fn element_rows(
-    setting: &Setting<'_>,
-    before: &NumberedList,
-    variable: &Variable,
-) -> Result<Vec<ElementRow>, Memory>
-    requires { is_by_elements variable.now.grouping ≡ true }
-    ensures { IfOk result (λ rows. rows.items ≡ keyed_rows (keys_of setting.now before.now variable.now)) }
-{
-    let ends = ends_of(before, &variable.grouping);
-    let table = setting.table;
-    let mut rows = Vec::with_capacity(setting.alloc, table.len())?;
-    for place in 0..table.len() {
-        let key = element_key(variable, ends, place, &table.row(place))?;
-        add_row(&mut rows, key, place)?;
-    }
-    Ok(rows)
-}
-
-// Adds the row at a place, if it has a key.
-fn add_row(rows: &mut Vec<ElementRow>, key: Option<ElementKey>, place: usize) -> Result<(), Memory>
-    ensures { OnOk result (rows.new.items ≡ rows.old.items ++ keyed_from place (option_map key_of key ∷ [])) }
-{
-    match key {
-        None => Ok(()),
-        Some(key) => {
-            let row = place as u64;
-            rows.push(ElementRow { key, row })?;
-            Ok(())
-        }
-    }
-}
-
-/// Whether the keys for a variable are elements alone, by what its rows are grouped by.
-pub(crate) fn is_by_elements(grouping: &Grouping) -> bool
-    ensures { result ≡ is_by_elements grouping.now }
-{
-    match grouping {
-        Grouping::Bound => true,
-        Grouping::Link {
-            source: _,
-            target: _,
-            terms,
-        } => terms.as_slice().is_empty(),
-        Grouping::EachRow | Grouping::Walk | Grouping::Terms(_) => false,
-    }
-}
-
-// The variables at the ends of an edge, where they were numbered before it.
+/// The variables at the ends of an edge, where they were numbered before it.
 #[derive(Clone, Copy)]
-struct Ends<'a> {
-    source: Option<&'a Numbered>,
-    target: Option<&'a Numbered>,
+pub(crate) struct Ends<'a> {
+    pub source: Option<&'a Numbered>,
+    pub target: Option<&'a Numbered>,
 }
 
-// The ends of a variable that is grouped so, which are looked up once for all rows.
-fn ends_of<'a>(before: &'a NumberedList, grouping: &Grouping) -> Ends<'a>
+/// The ends of a variable that is grouped so, which are looked up once for all rows.
+pub(crate) fn ends_of<'a>(before: &'a NumberedList, grouping: &Grouping) -> Ends<'a>
     ensures { AreEnds before.now grouping.now result }
 {
     match grouping {
@@ -216,8 +166,8 @@ fn end_part(end: Option<&Numbered>, place: usize) -> Result<Option<Datum>, Memor
     }
 }
 
-// The number that the row at a place gives to a variable, if it was numbered before.
-fn number_in(numbered: Option<&Numbered>, place: usize) -> Option<u64>
+/// The number that the row at a place gives to a variable, if it was numbered before.
+pub(crate) fn number_in(numbered: Option<&Numbered>, place: usize) -> Option<u64>
     ensures { result ≡ option_and_then (number_in place) (option_copied numbered.entry) }
 {
     match numbered {
@@ -226,45 +176,8 @@ fn number_in(numbered: Option<&Numbered>, place: usize) -> Option<u64>
     }
 }
 
-// The key of the row at a place for a variable, where keys are elements alone.
-fn element_key(
-    variable: &Variable,
-    ends: Ends<'_>,
-    place: usize,
-    row: &RowView<'_>,
-) -> Result<Option<ElementKey>, Memory>
-    requires { is_by_elements variable.now.grouping ≡ true }
-    ensures { (s : Setting) → (before : List Numbered) → AreEnds before variable.now.grouping ends.entry
-        → IfOk result (λ key. option_map key_of key ≡ key_by s before variable.now.var variable.now.kind variable.now.grouping place row.now) }
-{
-    match &variable.grouping {
-        Grouping::Bound => Ok(bound_key(variable.kind, row.get(variable.var))),
-        Grouping::Link {
-            source: _,
-            target: _,
-            terms: _,
-        } => key_between(ends, place),
-        Grouping::EachRow | Grouping::Walk | Grouping::Terms(_) => Ok(None),
-    }
-}
-
-// The key that is the ends of an edge, by the row at a place, where it gives a number to both.
-fn key_between(ends: Ends<'_>, place: usize) -> Result<Option<ElementKey>, Memory>
-    ensures { IfOk result (λ key. option_map key_of key ≡ whole (option_map Node (option_and_then (number_in place) (option_copied ends.entry.source))
-        ∷ option_map Node (option_and_then (number_in place) (option_copied ends.entry.target)) ∷ [])) }
-{
-    match (number_in(ends.source, place), number_in(ends.target, place)) {
-        (Some(source), Some(target)) => {
-            let source = Id::new(source).ok_or(Memory)?;
-            let target = Id::new(target).ok_or(Memory)?;
-            Ok(Some(ElementKey::Ends(source, target)))
-        }
-        _ => Ok(None),
-    }
-}
-
-// The key for a bound variable of a kind that stands for this.
-fn bound_key(kind: Kind, datum: Option<&Datum>) -> Option<ElementKey>
+/// The key for a bound variable of a kind that stands for this.
+pub(crate) fn bound_key(kind: Kind, datum: Option<&Datum>) -> Option<ElementKey>
     ensures { option_map key_of result ≡ bound_key kind (option_copied datum.entry) }
 {
     match datum {

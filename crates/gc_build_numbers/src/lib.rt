@@ -4,6 +4,7 @@
 //! variable. This crate makes no identity and reads no assignment.
 #![tactic(auto)]
 
+mod element_rows;
 mod elements;
 mod keys;
 mod numbered;

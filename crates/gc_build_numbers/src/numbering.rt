@@ -4,14 +4,15 @@ ghost use Rattle.gc_group.specs.declared.key.Key.{Key};
 ghost use Rattle.gc_build_numbers.specs.Keys.{groups_of, keys_of};
 ghost use Rattle.gc_build_numbers.specs.Numbers.{elements_by, numbered_by, numbering, with_keys, with_variable};
 
+use crate::element_rows::{element_rows, is_bound, is_by_ends, is_by_node};
 use crate::elements::{elements, taken_by, which};
-use crate::keys::{element_rows, is_by_elements, keys};
+use crate::keys::keys;
 use crate::numbered::{ElementList, Numbered, NumberedList, Numbering, RowElements};
 use crate::setting::Setting;
 use crate::whole_rows::add_rows;
 use gc_base::{Memory, Steps};
 use gc_build_recipe::{Grouping, Variable};
-use gc_group::{Group, element_groups, groups};
+use gc_group::{ElementKey, EndsKey, Group, NodeKey, element_groups, groups};
 use std::alloc::Global;
 use std::sync::ledger::Ledger;
 
@@ -64,10 +65,18 @@ fn groups_of<L: Ledger>(
     ensures groups { IfOk result (λ groups. groups.items ≡ groups_of (keys_of setting.now before.now variable.now)) }
     ensures each { IfOk result (λ groups. AreGroupsOf (keys_of setting.now before.now variable.now) groups.items) }
 {
-    if is_by_elements(&variable.grouping) {
-        element_groups(setting.alloc, element_rows(setting, before, variable)?)
+    let alloc = setting.alloc;
+    if is_by_ends(&variable.grouping) {
+        element_groups(alloc, element_rows::<EndsKey>(setting, before, variable)?)
+    } else if is_by_node(variable) {
+        element_groups(alloc, element_rows::<NodeKey>(setting, before, variable)?)
+    } else if is_bound(&variable.grouping) {
+        element_groups(
+            alloc,
+            element_rows::<ElementKey>(setting, before, variable)?,
+        )
     } else {
-        groups(setting.alloc, &keys(setting, before, variable, steps)?)
+        groups(alloc, &keys(setting, before, variable, steps)?)
     }
 }
 

@@ -14,3 +14,13 @@ pub returns-in_ok-keys-clause-groups : goal.returns-in_ok-keys-clause-groups
 returns-in_ok-keys-clause-groups g c =
     let keys = keys_of c.args.setting.now c.args.before.now c.args.variable.now in
     IfOk-weaker c.groups.result _ _ (λ gs h. are_groups_of keys gs.items (subst (λ ks. AreGroupsOf ks gs.items) (c.deref.ensures.value ∙ c.in_ok-keys.ensures) h)) c.groups.ensures
+
+pub returns-in_ok-element_rows-2-clause-groups : goal.returns-in_ok-element_rows-2-clause-groups
+returns-in_ok-element_rows-2-clause-groups g c =
+    let keys = keys_of c.args.setting.now c.args.before.now c.args.variable.now in
+    IfOk-weaker c.element_groups-then-is_by_node.result _ _ (λ gs h. are_groups_of keys gs.items h) (c.element_groups-then-is_by_node.ensures keys c.in_ok-element_rows-2.ensures)
+
+pub returns-in_ok-element_rows-3-clause-groups : goal.returns-in_ok-element_rows-3-clause-groups
+returns-in_ok-element_rows-3-clause-groups g c =
+    let keys = keys_of c.args.setting.now c.args.before.now c.args.variable.now in
+    IfOk-weaker c.element_groups-then-is_bound.result _ _ (λ gs h. are_groups_of keys gs.items h) (c.element_groups-then-is_bound.ensures keys c.in_ok-element_rows-3.ensures)

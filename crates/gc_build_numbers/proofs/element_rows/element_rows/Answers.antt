@@ -3,10 +3,10 @@ use Rattle.gc_group.specs.Gathered.{keyed_from, keyed_rows}
 use Rattle.gc_build_numbers.specs.Keys.{key_by, keys_from, keys_of}
 use Rattle.gc_build_numbers.proofs.KeysLaws.{keyed_next}
 use Rattle.gc_build_numbers.proofs.RowTurns.{turn}
-use Rattle.gc_build_numbers.proofs.keys.element_rows.Goals as goal
+use Rattle.gc_build_numbers.proofs.element_rows.element_rows.Goals as goal
 
 pub loop-place-preserved : goal.loop-place-preserved
-loop-place-preserved c =
+loop-place-preserved g c =
     let s = c.args.setting.now in
     let before = c.args.before.now in
     let v = c.args.variable.now in
