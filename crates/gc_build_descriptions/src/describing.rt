@@ -1,19 +1,22 @@
 ghost use Rattle.std.specs.Prelude.{◌≡◌, map, IfOk};
+ghost use Rattle.std.specs.Option.{option_and_then, option_copied};
 ghost use Rattle.gc_build_descriptions.specs.Described.{Describes, described, described_variable, start_of};
 ghost use Rattle.gc_build_descriptions.specs.Faults.{elements_of};
 ghost use Rattle.gc_build_descriptions.specs.Givens.{given};
 ghost use Rattle.gc_build_descriptions.specs.Said.{changed, said_of};
 ghost use Rattle.gc_build_numbers.specs.Settings.{read_graphs};
+ghost use Rattle.gc_values.specs.Contexts.{own_among};
 
 use crate::changes::{add_labels, give, remove_labels, remove_properties};
 use crate::described::{Described, DescribedList, Description, DescriptionList};
 use crate::fault::Refusal;
 use crate::givens::{Given, all_given, elements_of};
 use crate::said::{Changes, Said, changes_of, said_by};
-use crate::starts::start_of;
+use crate::starts::{start_graph, start_of};
 use gc_base::{Memory, Steps};
 use gc_build_numbers::{Element, Numbering, ReadGraphs, Setting};
 use gc_build_recipe::{Recipe, Variable};
+use gc_ppg::Graph;
 use std::sync::ledger::Ledger;
 
 /// The labels and properties of all elements of the variables of a CONSTRUCT, in the order in which they
@@ -88,8 +91,9 @@ fn descriptions<L: Ledger>(
     let mut all = DescriptionList::new(setting.alloc);
     let elements = elements_of(numbering, variable.var);
     let changes = changes_of(said, variable.var);
+    let graph = start_graph(reads, variable.start);
     for (place, element) in elements.iter().enumerate() {
-        all.push(described_at(setting, reads, variable, place, element, changes, steps)?)?;
+        all.push(described_at(setting, graph, variable, place, element, changes, steps)?)?;
     }
     Ok(all)
 }
@@ -97,19 +101,19 @@ fn descriptions<L: Ledger>(
 // The description of the element at a place among those of a variable, to each of which this is done.
 fn described_at<L: Ledger>(
     setting: &Setting<'_>,
-    reads: &ReadGraphs<'_>,
+    graph: Option<&Graph>,
     variable: &Variable,
     place: usize,
     element: &Element,
     changes: Changes<'_>,
     steps: &mut Steps<L>,
 ) -> Result<Description, Memory>
-    requires { reads.now ≡ read_graphs setting.now }
+    requires { option_copied graph ≡ option_and_then (own_among setting.now.reads setting.now.graphs) variable.now.start }
     ensures { IfOk result (λ d. d ≡ changed place changes.entry (start_of setting.now variable.now.start element.now.group.rows)) }
 {
     let alloc = setting.alloc;
     let rows = element.group.rows.as_slice();
-    let mut description = start_of(setting, reads, variable.start, rows, steps)?;
+    let mut description = start_of(setting, graph, variable.start, rows, steps)?;
     add_labels(&mut description, changes.labels)?;
     give(alloc, &mut description, place, changes.givens)?;
     remove_labels(&mut description, changes.lost_labels);

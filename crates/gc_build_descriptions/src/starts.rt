@@ -1,8 +1,8 @@
 ghost use Rattle.std.specs.Prelude.{◌≡◌, [], slice_get, Some, IfOk};
-ghost use Rattle.std.specs.Option.{option_copied, unwrap_or};
+ghost use Rattle.std.specs.Option.{option_and_then, option_copied, unwrap_or};
 ghost use Rattle.gc_build_descriptions.specs.Described.{blank, seen_or_blank, start_of};
-ghost use Rattle.gc_build_numbers.specs.Settings.{read_graphs};
 ghost use Rattle.gc_rows.specs.Rows.{datum_at};
+ghost use Rattle.gc_values.specs.Contexts.{own_among};
 ghost use Rattle.gc_values.specs.Descriptions.{node_description, edge_description, path_description, described_in};
 
 use crate::assigned::row_at;
@@ -14,16 +14,27 @@ use gc_rows::{Datum, RowView};
 use std::alloc::Global;
 use std::sync::ledger::Ledger;
 
+/// The graph of the variable with which elements start, if they start with one and it has a graph. It is
+/// looked up once for all elements.
+pub(crate) fn start_graph<'a>(reads: &'a ReadGraphs<'_>, start: Option<Sym>) -> Option<&'a Graph>
+    ensures { option_copied result ≡ option_and_then (own_among reads.now.reads reads.now.graphs) start }
+{
+    match start {
+        None => None,
+        Some(var) => reads.own_graph(var),
+    }
+}
+
 /// What an element starts with: the labels and properties of this variable on the first of its rows,
-/// as the variable's graph has them, or none.
+/// as the variable's graph, which is this, has them, or none.
 pub(crate) fn start_of<L: Ledger>(
     setting: &Setting<'_>,
-    reads: &ReadGraphs<'_>,
+    graph: Option<&Graph>,
     start: Option<Sym>,
     places: &[u64],
     steps: &mut Steps<L>,
 ) -> Result<Description, Memory>
-    requires { reads.now ≡ read_graphs setting.now }
+    requires { option_copied graph ≡ option_and_then (own_among setting.now.reads setting.now.graphs) start }
     ensures { IfOk result (λ d. d ≡ start_of setting.now start places.now) }
 {
     match start {
@@ -31,7 +42,7 @@ pub(crate) fn start_of<L: Ledger>(
         Some(var) => {
             let row = row_at(setting, first(places));
             let datum = datum_at(&row, var);
-            described_in(setting.alloc, reads.own_graph(var), datum, steps)
+            described_in(setting.alloc, graph, datum, steps)
         }
     }
 }
