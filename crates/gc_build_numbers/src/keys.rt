@@ -15,7 +15,7 @@ use crate::setting::Setting;
 use crate::terms::{Reader, readers};
 use gc_base::{Duplicate, Id, Memory, Steps, Sym};
 use gc_build_recipe::{Grouping, Variable};
-use gc_group::{ElementKey, Key, KeyParts};
+use gc_group::{ElementKey, Key, KeyParts, OfElements};
 use gc_ppg::Kind;
 use gc_rows::{Datum, RowView};
 use std::alloc::Global;

@@ -1,8 +1,8 @@
 -- What gathering makes of rows whose keys do not fall, and of rows in any order once they are sorted.
-use Rattle.std.proofs.Common.{◌≡◌, ℕ, suc, ◌+◌, ◌≤◌, ◌<◌, true, false, cond, not, ◌&&◌, List, [], ◌∷◌, ◌++◌, length, get_or, map, Option, Some, None, refl, sym, ap, ◌∙◌, subst, arith, append-nil, append_assoc, ⊎_elim}
+use Rattle.std.proofs.Common.{◌≡◌, ℕ, suc, ◌+◌, ◌≤◌, ◌<◌, Bool, true, false, cond, not, ◌&&◌, List, [], ◌∷◌, ◌++◌, length, get_or, take, drop, map, Option, Some, None, refl, sym, ap, ◌∙◌, subst, arith, append-nil, append_assoc, ⊎_elim}
 use Rattle.std.specs.Cmp.{IsTotalOrder, tied_itself}
 use Rattle.std.specs.FinMap.{IsAntisymmetric}
-use Rattle.std.specs.List.{AllByRecursion, Contains, filter}
+use Rattle.std.specs.List.{AllByRecursion, Contains, filter, prefix_len}
 use Rattle.std.specs.List.Sorted.{IsPermutation, IsSortedByKey, IsStableByKey}
 use Rattle.std.specs.Ordering.{is_eq, is_lt, ordering_reverse}
 use Rattle.std.specs.declared.cmp.Ordering.{Ordering}
@@ -234,6 +234,67 @@ gathered_left rows more later start done rest all first begin last are same empt
     let made : all ≡ gathered_from key_order (alone first) more =
     is ∙ (ap (λ xs. done ++ gathered_from key_order last xs) (sym ended) ∙ (so_far ∙ λ i. empty i ++ gathered_from key_order (alone_first i) (same i))) in
     subst (λ xs. AreGathered xs all) (sym are) (subst (AreGathered (first ∷ more)) (sym made) (gathered_all first more (subst (IsSortedByKey (λ r. r.key) key_order) are in_order)))
+
+-- the groups of rows, of which those of one key stand together
+abbrev pub gathered_list : List KeyedRow → List Group
+gathered_list [] = []
+gathered_list (r ∷ rows) = gathered_from key_order (alone r) rows
+
+abbrev pub tie : Key → KeyedRow → Bool
+tie key r = is_eq (key_order key r.key)
+
+-- a group takes the rows of its key that come first, and the others make theirs
+joined_run : (g : Group) (rows : List KeyedRow) → gathered_from key_order g rows
+    ≡ record { key = g.key; rows = g.rows ++ map (λ r. r.row) (take (prefix_len (tie g.key) rows) rows) } ∷ gathered_list (drop (prefix_len (tie g.key) rows) rows)
+joined_run g [] = λ i. record { key = g.key; rows = sym (append-nil g.rows) i } ∷ []
+joined_run g (r ∷ rows) =
+    let n = prefix_len (tie g.key) rows in
+    let more : suc n ≡ 1 + n = omega arith in
+    elim (is_eq (key_order g.key r.key)) as (λ t. cond t (gathered_from key_order (with_row g r.row) rows) (g ∷ gathered_from key_order (alone r) rows)
+    ≡ record { key = g.key; rows = g.rows ++ map (λ r. r.row) (take (cond t (suc n) 0) (r ∷ rows)) } ∷ gathered_list (drop (cond t (suc n) 0) (r ∷ rows))) [
+      | true ↦ joined_run (with_row g r.row) rows ∙ (λ i. record { key = g.key; rows = append_assoc g.rows (r.row ∷ []) (map (λ r. r.row) (take n rows)) i } ∷ gathered_list (drop n rows))
+      | false ↦ λ i. record { key = g.key; rows = sym (append-nil g.rows) i } ∷ gathered_from key_order (alone r) rows
+    ]
+    ∙ (λ i.
+    let m = cond (is_eq (key_order g.key r.key)) (more i) 0 in
+    record { key = g.key; rows = g.rows ++ map (λ r. r.row) (take m (r ∷ rows)) } ∷ gathered_list (drop m (r ∷ rows)))
+
+tied : (key : Key) → is_eq (key_order key key) ≡ true
+tied key = ap is_eq (tied_itself key_order_total key)
+
+gathered_run : (r : KeyedRow) (rows : List KeyedRow) → let n = prefix_len (tie r.key) (r ∷ rows) in
+    gathered_list (r ∷ rows) ≡ record { key = r.key; rows = map (λ x. x.row) (take n (r ∷ rows)) } ∷ gathered_list (drop n (r ∷ rows))
+gathered_run r rows =
+    let more : suc (prefix_len (tie r.key) rows) ≡ 1 + prefix_len (tie r.key) rows = omega arith in
+    joined_run (alone r) rows
+    ∙ (λ i.
+    let n = cond (sym (tied r.key) i) (more i) 0 in
+    record { key = r.key; rows = map (λ x. x.row) (take n (r ∷ rows)) } ∷ gathered_list (drop n (r ∷ rows)))
+
+-- one turn of a loop that takes the rows of the first key
+pub gathered_turn : (left : List KeyedRow) (first : KeyedRow) (more : List KeyedRow) (done next : List Group) (all : List Group) (g : Group) (n : ℕ) → left ≡ first ∷ more
+    → n ≡ prefix_len (tie first.key) left → g ≡ record { key = first.key; rows = map (λ x. x.row) (take n left) } → next ≡ done ++ g ∷ []
+    → done ++ gathered_list left ≡ all → next ++ gathered_list (drop n left) ≡ all
+gathered_turn left first more done next all g n begun count is added so_far =
+    let split : gathered_list left ≡ g ∷ gathered_list (drop n left) =
+    subst (λ xs. gathered_list xs ≡ record { key = first.key; rows = map (λ x. x.row) (take (prefix_len (tie first.key) xs) xs) } ∷ gathered_list (drop (prefix_len (tie first.key) xs) xs))
+    (sym begun) (gathered_run first more)
+    ∙ ((λ i. record { key = first.key; rows = map (λ x. x.row) (take (sym count i) left) } ∷ gathered_list (drop (sym count i) left)) ∙ ap (λ x. x ∷ gathered_list (drop n left)) (sym is)) in
+    ap (λ xs. xs ++ gathered_list (drop n left)) added ∙ (append_assoc done (g ∷ []) (gathered_list (drop n left)) ∙ (ap (λ xs. done ++ xs) (sym split) ∙ so_far))
+
+-- it takes one row at least
+pub shorter : (left : List KeyedRow) (first : KeyedRow) (more : List KeyedRow) (n : ℕ) → left ≡ first ∷ more → n ≡ prefix_len (tie first.key) left → 1 ≤ n
+shorter left first more n begun count =
+    subst (λ k. 1 ≤ k) (sym (count ∙ (ap (prefix_len (tie first.key)) begun ∙ ap (λ t. cond t (1 + prefix_len (tie first.key) more) 0) (tied first.key)))) (omega arith)
+
+pub gathered_whole : (rows left : List KeyedRow) (all : List Group) → IsSortedByKey (λ r. r.key) key_order rows → left ≡ [] → all ++ gathered_list left ≡ gathered_list rows → AreGathered rows all
+gathered_whole rows left all in_order ended so_far =
+    let made : gathered_list rows ≡ all = sym so_far ∙ (ap (λ xs. all ++ gathered_list xs) ended ∙ append-nil all) in
+    subst (AreGathered rows) made (of_rows rows in_order)
+  where
+    of_rows : (rows : List KeyedRow) → IsSortedByKey (λ r. r.key) key_order rows → AreGathered rows (gathered_list rows)
+    of_rows [] h = record { ascend = tt; exact = record { sound = λ k m. m; complete = λ k m. m }; rows = tt }
+    of_rows (r ∷ rows) h = gathered_all r rows h
 
 pub gathered_none : AreGathered [] []
 gathered_none = record { ascend = tt; exact = record { sound = λ k m. m; complete = λ k m. m }; rows = tt }

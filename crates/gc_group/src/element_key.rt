@@ -70,31 +70,12 @@ impl OfElements for EndsKey {
     }
 }
 
-/// A key that is an element, or the two nodes at the ends of an edge. It takes no memory.
+/// The key that is an element.
 #[derive(Debug, Clone, Copy)]
 pub enum ElementKey {
     Node(Id),
     Edge(Id),
     Stored(Id),
-    Ends(Id, Id),
-}
-
-impl ElementKey {
-    /// The same, as a key with its parts. They take no memory.
-    pub fn to_key(&self, alloc: Global) -> Key
-        ensures { result ≡ key_of self.now }
-    {
-        Key {
-            parts: match self {
-                ElementKey::Node(id) => KeyParts::of_one(alloc, Datum::Node(*id)),
-                ElementKey::Edge(id) => KeyParts::of_one(alloc, Datum::Edge(*id)),
-                ElementKey::Stored(id) => KeyParts::of_one(alloc, Datum::Stored(*id)),
-                ElementKey::Ends(source, target) => {
-                    KeyParts::of_two(alloc, Datum::Node(*source), Datum::Node(*target))
-                }
-            },
-        }
-    }
 }
 
 impl OfElements for ElementKey {
@@ -105,7 +86,13 @@ impl OfElements for ElementKey {
     }
 
     fn to_key(&self, alloc: Global) -> Key {
-        self.to_key(alloc)
+        Key {
+            parts: match self {
+                ElementKey::Node(id) => KeyParts::of_one(alloc, Datum::Node(*id)),
+                ElementKey::Edge(id) => KeyParts::of_one(alloc, Datum::Edge(*id)),
+                ElementKey::Stored(id) => KeyParts::of_one(alloc, Datum::Stored(*id)),
+            },
+        }
     }
 }
 
@@ -117,19 +104,16 @@ fn element_key_cmp(a: &ElementKey, b: &ElementKey) -> Ordering
         (ElementKey::Node(x), ElementKey::Node(y)) => x.cmp(y),
         (ElementKey::Edge(x), ElementKey::Edge(y)) => x.cmp(y),
         (ElementKey::Stored(x), ElementKey::Stored(y)) => x.cmp(y),
-        (ElementKey::Ends(x, more), ElementKey::Ends(y, other)) => x.cmp(y).then(more.cmp(other)),
-        (ElementKey::Node(x), ElementKey::Ends(y, _)) => x.cmp(y).then(Ordering::Less),
-        (ElementKey::Ends(x, _), ElementKey::Node(y)) => x.cmp(y).then(Ordering::Greater),
         _ => first_kind(a).cmp(&first_kind(b)),
     }
 }
 
-// The kind of the first part: nodes, edges, stored paths.
+// The kind of the element: nodes, edges, stored paths.
 fn first_kind(key: &ElementKey) -> u8
     ensures { result ≡ first_kind key.now }
 {
     match key {
-        ElementKey::Node(_) | ElementKey::Ends(_, _) => 0,
+        ElementKey::Node(_) => 0,
         ElementKey::Edge(_) => 1,
         ElementKey::Stored(_) => 2,
     }

@@ -30,6 +30,24 @@ impl RowNumbers {
         }
     }
 
+    /// One number. It takes no memory.
+    pub(crate) fn of_one(alloc: Global, row: u64) -> RowNumbers
+        ensures { result ≡ row ∷ [] }
+    {
+        RowNumbers {
+            numbers: SmallVec::from_buf_and_len(alloc, [row, 0], 1),
+        }
+    }
+
+    /// These numbers.
+    pub(crate) fn of_vec(numbers: Vec<u64>) -> RowNumbers
+        ensures { result ≡ numbers.items }
+    {
+        RowNumbers {
+            numbers: SmallVec::from_vec(numbers),
+        }
+    }
+
     /// Adds a number at the end.
     pub fn push(&mut self, row: u64) -> Result<(), Memory>
         ensures { OnOk result (self.new ≡ self.old ++ row ∷ []) }

@@ -1,9 +1,11 @@
-use Rattle.std.proofs.Common.{◌≡◌, ◌++◌, drop}
-use Rattle.gc_group.proofs.Gathering.{gathered_from}
-use Rattle.gc_group.specs.Groups.{key_order}
+use Rattle.std.proofs.Common.{◌≡◌, ◌++◌, length}
+use Rattle.gc_group.proofs.Gathering.{gathered_list}
 use Rattle.gc_group.proofs.element_rows.gathered.Given as goal
 
--- the groups so far with what the rest makes of the last are what all rows make
-abbrev pub invariant-loop-row : goal.invariant-loop-row
-invariant-loop-row g l =
-    l.groups.items ++ gathered_from key_order l.last (drop l.row-index l.rest) ≡ l.initial.groups.items ++ gathered_from key_order l.initial.last l.rest
+-- the groups so far with those of the rows that are left are those of all rows
+abbrev pub invariant-loop-first : goal.invariant-loop-first
+invariant-loop-first g l = l.groups.items ++ gathered_list l.left ≡ gathered_list l.rows
+
+-- each turn takes a row
+abbrev pub decreases-loop-first : goal.decreases-loop-first
+decreases-loop-first g l = length l.left
