@@ -1,6 +1,6 @@
 -- Claims that are those of one graph are gathered to that graph.
-use Rattle.std.proofs.Common.{◌≡◌, ◌⊎◌, inl, inr, ⊎_elim, ℕ, ◌<◌, Bool, true, false, cond, ◌&&◌, ◌||◌, ◌==◌, List, [], ◌∷◌, ◌++◌, map, fold, find, Option, Some, None, is_some, refl, sym, ap, ◌∙◌, subst, arith}
-use Rattle.std.specs.List.{AllByRecursion, Contains, filter}
+use Rattle.std.proofs.Common.{◌≡◌, ◌⊎◌, inl, inr, ⊎_elim, ℕ, Bool, true, false, cond, not, ◌||◌, ◌==◌, List, [], ◌∷◌, ◌++◌, map, fold, find, Option, Some, is_some, refl, sym, ap, ◌∙◌, subst, arith}
+use Rattle.std.specs.List.{AllByRecursion, Contains, filter, list_all}
 use Rattle.std.specs.Map.{lookup}
 use Rattle.std.specs.Ordering.{nat_cmp, on}
 use Rattle.std.proofs.lemmas.Bool.{and_parts, eq-eqb, eqb-true}
@@ -9,25 +9,25 @@ use Rattle.gc_base.specs.Ascending.{Ascends}
 use Rattle.gc_base.specs.declared.walk.Step.{Step}
 use Rattle.gc_base.specs.declared.walk.Walk.{Walk}
 use Rattle.gc_base.proofs.Search.{AllByRecursion-weaker}
-use Rattle.gc_spec.specs.Coherence.{ElementShape, NodeShape, EdgeShape, PathShape, shapes_of}
-use Rattle.gc_spec.specs.PropertyGraph.{PropertyGraph, Node, Edge, Path, IsGraph, are_steps_from, edge_at, is_among, is_joined, is_walk, node_at, node_ids, path_at}
+use Rattle.gc_spec.specs.Coherence.{ElementShape, NodeShape, EdgeShape, PathShape}
+use Rattle.gc_spec.specs.PropertyGraph.{PropertyGraph, Node, Edge, Path, IsGraph, are_steps_from, edge_at, edge_ids, is_among, is_joined, is_walk, node_at, node_ids, path_at}
 use Rattle.gc_ppg.specs.Built.{has_ends}
 use Rattle.gc_ppg.proofs.ElementLists.{passes_at}
-use Rattle.gc_sets.specs.Additions.{ArePartsOf, assembled}
 use Rattle.gc_sets.specs.Agreed.{AreOfOneGraph, claimed_shapes}
 use Rattle.gc_sets.specs.Claims.{Claims, IsClaimed, joined, said_of}
 use Rattle.gc_sets.specs.Descriptions.{united_node}
 use Rattle.gc_sets.specs.Elements.{stands}
 use Rattle.gc_sets.specs.Gathered.{IsGathered}
 use Rattle.gc_sets.specs.Unions.{united_edge, united_path}
-use Rattle.gc_sets.proofs.Assembling.{assembled-ascending, parts_by_shape}
+use Rattle.gc_sets.specs.Wholes.{edge_fits, path_fits}
+use Rattle.gc_sets.proofs.Assembling.{edge_no_path, no_edge, no_path}
 use Rattle.gc_sets.proofs.Coherent.{both_true}
-use Rattle.gc_sets.proofs.DifferenceLaws.{none_taken}
-use Rattle.gc_sets.proofs.Finds.{found_key, injective, none_after}
-use Rattle.gc_sets.proofs.Shapes.{new_ascending}
+use Rattle.gc_sets.proofs.Finds.{injective, none_after}
+use Rattle.gc_sets.proofs.NewIds.{not_in_graph}
+use Rattle.gc_sets.proofs.Outcomes.{all_pass}
+use Rattle.gc_sets.proofs.Shapes.{not_among}
 use Rattle.gc_sets.proofs.ShapesOf.{edge_key, edge_shape, node_key, node_shape, path_key, path_shape}
 use Rattle.gc_sets.proofs.Turns.{found-is_among}
-use Rattle.gc_sets.proofs.UnionLaws.{filter_all}
 use Rattle.gc_sets.proofs.Walks.{joined_found}
 
 -- members of lists
@@ -122,6 +122,10 @@ either_true : (a b : Bool) → (a || b) ≡ true → (a ≡ true) ⊎ (b ≡ tru
 either_true true b h = inl h
 either_true false b h = inr h
 
+beside : {X : Type 0} (P Q R : X → Type 0) → ((x : X) → P x → Q x → R x) → (xs : List X) → AllByRecursion P xs → AllByRecursion Q xs → AllByRecursion R xs
+beside P Q R f [] h k = tt
+beside P Q R f (x ∷ xs) h k = (f x h.0 k.0, beside P Q R f xs h.1 k.1)
+
 abbrev source_of : ElementShape → ℕ
 source_of NodeShape = 0
 source_of (EdgeShape from to) = from
@@ -197,12 +201,6 @@ module _ (c : Claims) (agreed : AreOfOneGraph c) (ns : List Node) (es : List Edg
       let by = gathered_by united_path path_key path_shape (λ x y. refl) c.paths ps paths p m in
       ap shape (sym by.2) ∙ (shape_is by.0.id (path_shape by.0) (path_entry by.0 by.1) ∙ ap Some (sym by.3)))
 
-  -- so the gathered are parts of a graph
-  pub agreed_parts : ArePartsOf ns es ps
-  agreed_parts =
-      parts_by_shape shape ns es ps nodes_shaped edges_shaped paths_shaped
-      (new_ascending node_key [] ns nodes.ascend (none_taken ns)) (new_ascending edge_key [] es edges.ascend (none_taken es)) (new_ascending path_key [] ps paths.ascend (none_taken ps))
-
   -- a node that is claimed is among them
   node_kept : (id : ℕ) → is_among (node_ids c.nodes) id ≡ true → is_among (node_ids ns) id ≡ true
   node_kept id h =
@@ -258,18 +256,28 @@ module _ (c : Claims) (agreed : AreOfOneGraph c) (ns : List Node) (es : List Edg
   abbrev whole : PropertyGraph
   whole = record { nodes = ns; edges = es; paths = ps }
 
-  whole_assembled : assembled ns es ps ≡ whole
-  whole_assembled =
-      assembled-ascending ns es ps nodes.ascend edges.ascend paths.ascend
-      ∙ (ap (λ ds. record { nodes = ns; edges = ds; paths = filter (λ (p : Path). is_walk ns ds p.walk) ps }) (filter_all (stands ns) es all_stand)
-      ∙ ap (λ qs. record { nodes = ns; edges = es; paths = qs }) (filter_all (λ (p : Path). is_walk ns es p.walk) ps all_walk))
+  -- each edge fits the nodes, and each stored path the nodes and the edges
+  pub edges_fit : list_all (edge_fits (record { nodes = ns; edges = []; paths = [] })) es ≡ true
+  edges_fit =
+      all_pass (edge_fits (record { nodes = ns; edges = []; paths = [] })) es (beside (λ e. is_among (node_ids ns) e.id ≡ false) (λ e. stands ns e ≡ true) _
+      (λ e apart stand. both_true _ (stands ns e) (ap not (not_in_graph (record { nodes = ns; edges = []; paths = [] }) e.id apart refl refl)) stand) es
+      (AllByRecursion-weaker _ _ (λ (e : Edge) h. not_among shape (λ n. n.id) (λ n. NodeShape) ns e.id (EdgeShape e.from e.to) nodes_shaped (λ n. no_edge e.from e.to) h) es edges_shaped) all_stand)
+
+  pub paths_fit : list_all (path_fits (record { nodes = ns; edges = es; paths = [] })) ps ≡ true
+  paths_fit =
+      all_pass (path_fits (record { nodes = ns; edges = es; paths = [] })) ps (beside
+      (λ p. (is_among (node_ids ns) p.id ≡ false) × (is_among (edge_ids es) p.id ≡ false)) (λ p. is_walk ns es p.walk ≡ true) _
+      (λ p apart walk. both_true _ (is_walk ns es p.walk) (ap not (not_in_graph (record { nodes = ns; edges = es; paths = [] }) p.id apart.0 apart.1 refl)) walk) ps
+      (AllByRecursion-weaker _ _ (λ (p : Path) h. (
+        not_among shape (λ n. n.id) (λ n. NodeShape) ns p.id (PathShape p.walk) nodes_shaped (λ n. no_path p.walk) h,
+        not_among shape (λ e. e.id) (λ e. EdgeShape e.from e.to) es p.id (PathShape p.walk) edges_shaped (λ e. edge_no_path e.from e.to p.walk) h,
+      )) ps paths_shaped) all_walk)
 
   -- and what is built of them is the graph of the claims
-  pub agreed_made : (g : PropertyGraph) → g ≡ assembled ns es ps → IsGraph g → IsClaimed c g
-  agreed_made g made valid =
-      let is : g ≡ whole = made ∙ whole_assembled in record {
-        graph = valid;
-        nodes = λ id. ap (λ (u : PropertyGraph). node_at u.nodes id) is ∙ nodes.said id;
-        edges = λ id. ap (λ (u : PropertyGraph). edge_at u.edges id) is ∙ edges.said id;
-        paths = λ id. ap (λ (u : PropertyGraph). path_at u.paths id) is ∙ paths.said id;
-      }
+  pub agreed_made : (g : PropertyGraph) → g ≡ whole → IsGraph g → IsClaimed c g
+  agreed_made g is valid = record {
+    graph = valid;
+    nodes = λ id. ap (λ (u : PropertyGraph). node_at u.nodes id) is ∙ nodes.said id;
+    edges = λ id. ap (λ (u : PropertyGraph). edge_at u.edges id) is ∙ edges.said id;
+    paths = λ id. ap (λ (u : PropertyGraph). path_at u.paths id) is ∙ paths.said id;
+  }

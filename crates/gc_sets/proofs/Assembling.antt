@@ -17,13 +17,13 @@ pub onto_map : {X Y : Type 0} (P : Y → Type 0) (f : X → Y) (xs : List X) →
 onto_map P f [] h = tt
 onto_map P f (x ∷ xs) h = (h.0, onto_map P f xs h.1)
 
-no_edge : (from to : ℕ) → NodeShape ≡ EdgeShape from to → ⊥
+pub no_edge : (from to : ℕ) → NodeShape ≡ EdgeShape from to → ⊥
 no_edge from to h = absurd (cc h)
 
-no_path : (walk : _) → NodeShape ≡ PathShape walk → ⊥
+pub no_path : (walk : _) → NodeShape ≡ PathShape walk → ⊥
 no_path walk h = absurd (cc h)
 
-edge_no_path : (from to : ℕ) (walk : _) → EdgeShape from to ≡ PathShape walk → ⊥
+pub edge_no_path : (from to : ℕ) (walk : _) → EdgeShape from to ≡ PathShape walk → ⊥
 edge_no_path from to walk h = absurd (cc h)
 
 -- elements of each kind with identities of their own, which stand for what they are, are parts of a graph

@@ -2,8 +2,8 @@ ghost use Rattle.std.specs.Prelude.{IfOk};
 ghost use Rattle.gc_sets.specs.Agreed.{AreOfOneGraph};
 ghost use Rattle.gc_sets.specs.Claims.{Claims, IsClaimed};
 
-use crate::additions::assemble;
 use crate::gathering::gathered;
+use crate::whole::graph_of;
 use gc_base::Memory;
 use gc_ppg::{EdgeInfo, Graph, NodeInfo, PathInfo};
 use std::alloc::Global;
@@ -22,7 +22,7 @@ pub fn unite_agreed(
     let nodes = gathered(nodes)?;
     let edges = gathered(edges)?;
     let paths = gathered(paths)?;
-    let graph = assemble(alloc, nodes, edges, paths)?;
+    let graph = graph_of(alloc, nodes, edges, paths)?;
     let _valid = graph.node_count();
     Ok(graph)
 }

@@ -34,6 +34,27 @@ pub(crate) fn assembled(
     Ok(Some(graph))
 }
 
+/// The graph of just these elements, which are those of a graph: each edge and each stored path fits those before it, and
+/// none is tested.
+pub(crate) fn graph_of(
+    alloc: Global,
+    nodes: Vec<NodeInfo>,
+    edges: Vec<EdgeInfo>,
+    paths: Vec<PathInfo>,
+) -> Result<Graph, Memory>
+    requires nodes { Ascends node_order nodes.items }
+    requires edges { Ascends edge_order edges.items }
+    requires paths { Ascends path_order paths.items }
+    requires edges_fit { list_all (edge_fits (record { nodes = nodes.items; edges = []; paths = [] })) edges.items ≡ true }
+    requires paths_fit { list_all (path_fits (record { nodes = nodes.items; edges = edges.items; paths = [] })) paths.items ≡ true }
+    ensures { IfOk result (λ g. g ≡ record { nodes = nodes.items; edges = edges.items; paths = paths.items }) }
+{
+    let mut builder = with_nodes(alloc, nodes)?;
+    add_edges(&mut builder, edges)?;
+    add_paths(&mut builder, paths)?;
+    builder.finish_plain()
+}
+
 // A builder that has these nodes.
 fn with_nodes(alloc: Global, nodes: Vec<NodeInfo>) -> Result<GraphBuilder, Memory>
     requires { Ascends node_order nodes.items }
