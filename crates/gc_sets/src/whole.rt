@@ -49,10 +49,10 @@ pub(crate) fn graph_of(
     requires paths_fit { list_all (path_fits (record { nodes = nodes.items; edges = edges.items; paths = [] })) paths.items ≡ true }
     ensures { IfOk result (λ g. g ≡ record { nodes = nodes.items; edges = edges.items; paths = paths.items }) }
 {
-    let mut builder = with_nodes(alloc, nodes)?;
-    add_edges(&mut builder, edges)?;
-    add_paths(&mut builder, paths)?;
-    builder.finish_plain()
+    let mut whole = with_nodes(alloc, nodes)?;
+    add_edges(&mut whole, edges)?;
+    add_paths(&mut whole, paths)?;
+    whole.finish_plain()
 }
 
 // A builder that has these nodes.
