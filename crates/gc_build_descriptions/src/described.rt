@@ -1,4 +1,4 @@
-use gc_base::{LabelSet, Properties, Sequence, Sym};
+use gc_base::{Duplicate, LabelSet, Memory, Properties, Sequence, Sym};
 use gc_build_recipe::{ByVariable, OfVariable};
 use std::marker::Model;
 
@@ -15,6 +15,20 @@ impl Model for Description {
     ghost Value = { Description };
 
     ghost view = { λ d. record { labels = d.labels; properties = d.properties } };
+}
+
+impl Description {
+    ghost use Rattle.std.specs.Prelude.{◌≡◌, IfOk};
+
+    /// The same labels and properties.
+    pub(crate) fn copied(&self) -> Result<Description, Memory>
+        ensures { IfOk result (λ copied. copied ≡ self.now) }
+    {
+        Ok(Description {
+            labels: self.labels.copy()?,
+            properties: self.properties.copy()?,
+        })
+    }
 }
 
 /// A variable of a CONSTRUCT, with the descriptions of its elements in their order.

@@ -1,4 +1,4 @@
-ghost use Rattle.std.specs.Prelude.{◌≡◌, map, IfOk};
+ghost use Rattle.std.specs.Prelude.{◌≡◌, ℕ, List, map, IfOk, IfSome};
 ghost use Rattle.std.specs.Option.{option_and_then, option_copied};
 ghost use Rattle.gc_build_descriptions.specs.Described.{Describes, described, described_variable, start_of};
 ghost use Rattle.gc_build_descriptions.specs.Faults.{elements_of};
@@ -12,11 +12,12 @@ use crate::described::{Described, DescribedList, Description, DescriptionList};
 use crate::fault::Refusal;
 use crate::givens::{Given, all_given, elements_of};
 use crate::said::{Changes, Said, changes_of, said_by};
-use crate::starts::{start_graph, start_of};
-use gc_base::{Memory, Steps};
+use crate::starts::{blank, start_graph, start_of};
+use gc_base::{Memory, Steps, Sym};
 use gc_build_numbers::{Element, Numbering, ReadGraphs, Setting};
 use gc_build_recipe::{Recipe, Variable};
 use gc_ppg::Graph;
+use std::alloc::Global;
 use std::sync::ledger::Ledger;
 
 /// The labels and properties of all elements of the variables of a CONSTRUCT, in the order in which they
@@ -92,28 +93,64 @@ fn descriptions<L: Ledger>(
     let elements = elements_of(numbering, variable.var);
     let changes = changes_of(said, variable.var);
     let graph = start_graph(reads, variable.start);
+    let made = alike(setting, variable.start, changes)?;
+    let alike = &made;
     for (place, element) in elements.iter().enumerate() {
-        all.push(described_at(setting, graph, variable, place, element, changes, steps)?)?;
+        all.push(described_at(
+            setting, graph, alike, variable, place, element, changes, steps,
+        )?)?;
     }
     Ok(all)
+}
+
+// The description of each element, to each of which this is done, where all have the same: where they start with nothing
+// and are given nothing.
+fn alike(
+    setting: &Setting<'_>,
+    start: Option<Sym>,
+    changes: Changes<'_>,
+) -> Result<Option<Description>, Memory>
+    ensures { IfOk result (λ alike. IfSome alike (λ d. (place : ℕ) → (rows : List ℕ) → changed place changes.entry (start_of setting.now start rows) ≡ d)) }
+{
+    match (start, changes.givens) {
+        (None, None) => Ok(Some(changed(setting.alloc, 0, changes, blank(setting.alloc))?)),
+        _ => Ok(None),
+    }
 }
 
 // The description of the element at a place among those of a variable, to each of which this is done.
 fn described_at<L: Ledger>(
     setting: &Setting<'_>,
     graph: Option<&Graph>,
+    alike: &Option<Description>,
     variable: &Variable,
     place: usize,
     element: &Element,
     changes: Changes<'_>,
     steps: &mut Steps<L>,
 ) -> Result<Description, Memory>
-    requires { option_copied graph ≡ option_and_then (own_among setting.now.reads setting.now.graphs) variable.now.start }
+    requires graph { option_copied graph ≡ option_and_then (own_among setting.now.reads setting.now.graphs) variable.now.start }
+    requires alike { IfSome alike.now (λ d. (place : ℕ) → (rows : List ℕ) → changed place changes (start_of setting.now variable.now.start rows) ≡ d) }
     ensures { IfOk result (λ d. d ≡ changed place changes.entry (start_of setting.now variable.now.start element.now.group.rows)) }
 {
-    let alloc = setting.alloc;
+    if let Some(description) = alike {
+        return description.copied();
+    }
     let rows = element.group.rows.as_slice();
-    let mut description = start_of(setting, graph, variable.start, rows, steps)?;
+    let start = start_of(setting, graph, variable.start, rows, steps)?;
+    changed(setting.alloc, place, changes, start)
+}
+
+// What the element at a place starts with, after all that is done to it.
+fn changed(
+    alloc: Global,
+    place: usize,
+    changes: Changes<'_>,
+    start: Description,
+) -> Result<Description, Memory>
+    ensures { IfOk result (λ d. d ≡ changed place changes.entry start) }
+{
+    let mut description = start;
     add_labels(&mut description, changes.labels)?;
     give(alloc, &mut description, place, changes.givens)?;
     remove_labels(&mut description, changes.lost_labels);

@@ -47,8 +47,8 @@ pub(crate) fn start_of<L: Ledger>(
     }
 }
 
-// No labels and no properties.
-fn blank(alloc: Global) -> Description
+/// No labels and no properties.
+pub(crate) fn blank(alloc: Global) -> Description
     ensures { result ≡ blank }
 {
     Description {
