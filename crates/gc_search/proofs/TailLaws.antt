@@ -4,7 +4,7 @@ use Rattle.std.specs.List.{slice_get}
 use Rattle.std.specs.Ordering.{MatchOrdering, nat_cmp, is_eq, ordering_then}
 use Rattle.std.specs.Cmp.Lexicographic.{slice_cmp}
 use Rattle.std.proofs.lemmas.Cmp.{ranked, nat_cmp_total, tied_itself}
-use Rattle.std.proofs.lemmas.List.{length-map, map-append}
+use Rattle.std.proofs.lemmas.List.{append-nil, length-map, map-append}
 use Rattle.gc_base.specs.declared.walk.Step.{Step}
 use Rattle.gc_prod.specs.declared.moves.By.{By}
 use Rattle.gc_prod.specs.declared.moves.By.TheVariants as by
@@ -13,8 +13,8 @@ use Rattle.gc_prod.specs.SymbolHops.{steps_by}
 use Rattle.gc_search.specs.declared.comparing.Compared.{Compared}
 use Rattle.gc_search.specs.declared.tail.Tail.{Tail}
 use Rattle.gc_search.specs.Arrivals.{FoundWalk, edges_along, Told}
-use Rattle.gc_search.specs.Links.{Link, numbered, steps_behind, walk_of, IsTold}
-use Rattle.gc_search.specs.Tails.{edges_by, edges_if, edges_told, tail_edges, list_order, compared_order, IsMet}
+use Rattle.gc_search.specs.Links.{Link, numbered, steps_behind, walk_of, IsNumber, IsTold}
+use Rattle.gc_search.specs.Tails.{edges_by, edges_if, edges_order, edges_told, tail_edges, list_order, compared_order, IsLevelOrder, IsMet}
 use Rattle.gc_search.proofs.LoopLaws.{eq_told}
 use Rattle.gc_search.proofs.TreeLaws.{numbered_at}
 
@@ -104,14 +104,17 @@ module _ (setting : Setting) (walks : List FoundWalk) (l : Link) where
   pub edges_none : (l.before ≡ 0) ⊎ (length walks < l.before) → [] ≡ edges_told setting walks l
   edges_none h = sym (ap (λ o. edges_along (steps_behind setting l o)) (numbered_none walks l.before h))
 
+  pub edges_behind : (a : FoundWalk) → numbered walks l.before ≡ Some a → edges_told setting walks l ≡ edges_along a.steps ++ edges_by setting l.by
+  edges_behind a is =
+      ap (λ o. edges_along (steps_behind setting l o)) is
+      ∙ (map-append (λ (s : Step). s.edge) a.steps (steps_by setting.network l.by l.at.node) ∙ ap (λ v. edges_along a.steps ++ v) (edges_of_move setting l.by l.at.node))
+
   pub edges_whole : (n : ℕ) → 0 < l.before → l.before ≤ length walks → n ≡ length (edges_by setting l.by)
       → tail_edges setting walks (record { before = l.before; by = l.by; left = n }) ≡ edges_told setting walks l
   edges_whole n some within all =
       let a = numbered_some walks l.before some within in
       let es = edges_by setting l.by in
-      let one : edges_told setting walks l ≡ edges_along (a.0).steps ++ es =
-      ap (λ o. edges_along (steps_behind setting l o)) a.1
-      ∙ (map-append (λ (s : Step). s.edge) (a.0).steps (steps_by setting.network l.by l.at.node) ∙ ap (λ v. edges_along (a.0).steps ++ v) (edges_of_move setting l.by l.at.node)) in
+      let one : edges_told setting walks l ≡ edges_along (a.0).steps ++ es = edges_behind a.0 a.1 in
       ap (λ m. edges_if (numbered walks l.before) ++ take m es) all ∙ (ap (λ v. edges_if (numbered walks l.before) ++ v) (take_all es) ∙ (ap (λ o. edges_if o ++ es) a.1 ∙ sym one))
 
 -- a walk that extends one that is told is told
@@ -126,3 +129,31 @@ told_further setting walks place n last l at told within before edges count =
     let whole : length (walk_of setting walks l).steps ≡ length (a.steps ++ by_move) = ap (λ o. length (steps_behind setting l o)) is in
     let move : length by_move ≡ length (edges_by setting l.by) = sym (length-map by_move (λ (s : Step). s.edge)) ∙ ap length (edges_of_move setting l.by l.at.node) in
     record { before = omega (arith, before, within); edges = omega (arith, edges, count, told.edges, whole, move, length-append a.steps by_move) }
+
+-- a walk by a move that stays has the edges of the one that it extends
+pub edges_stay : (setting : Setting) (walks : List FoundWalk) (l k : Link) → IsNumber walks l.before → edges_by setting l.by ≡ [] → slice_get walks (l.before - 1) ≡ Some (walk_of setting walks k)
+    → edges_told setting walks k ≡ edges_told setting walks l
+edges_stay setting walks l k number none at =
+    let is : numbered walks l.before ≡ Some (walk_of setting walks k) = numbered_at walks l.before (walk_of setting walks k) number.0 at in
+    let own = edges_told setting walks k in
+    sym (edges_behind setting walks l (walk_of setting walks k) is ∙ (ap (λ v. own ++ v) none ∙ append-nil own))
+
+-- two walks by one edge behind settled ones
+pub order_ranked : (setting : Setting) (walks : List FoundWalk) (l k : Link) (e f : ℕ) (told : Ordering) → l.by ≡ by.Edge e → k.by ≡ by.Edge f → IsLevelOrder walks l.before k.before told
+    → ordering_then told (nat_cmp e f) ≡ edges_order setting walks l k
+order_ranked setting walks l k e f told one other level =
+    let a = numbered_some walks l.before level.first.0 level.first.1 in
+    let b = numbered_some walks k.before level.second.0 level.second.1 in
+    let xs = edges_along (a.0).steps in
+    let ys = edges_along (b.0).steps in
+    let first : edges_told setting walks l ≡ xs ++ e ∷ [] = edges_behind setting walks l a.0 a.1 ∙ ap (λ v. xs ++ edges_by setting v) one in
+    let second : edges_told setting walks k ≡ ys ++ f ∷ [] = edges_behind setting walks k b.0 b.1 ∙ ap (λ v. ys ++ edges_by setting v) other in
+    let same : length xs ≡ length ys = sym (ap (λ o. length (edges_if o)) a.1) ∙ (level.level ∙ ap (λ o. length (edges_if o)) b.1) in
+    let is : told ≡ slice_cmp nat_cmp xs ys = level.order ∙ (ap (λ o. slice_cmp nat_cmp (edges_if o) (edges_if (numbered walks k.before))) a.1 ∙ ap (λ o. slice_cmp nat_cmp xs (edges_if o)) b.1) in
+    ap (λ o. ordering_then o (nat_cmp e f)) is
+    ∙ (sym (cmp_push xs ys e f same)
+    ∙ (order_level (xs ++ e ∷ []) (ys ++ f ∷ []) (omega (arith, same, length-append xs (e ∷ []), length-append ys (f ∷ [])))
+    ∙ sym (ap (λ v. list_order v (edges_told setting walks k)) first ∙ ap (list_order (xs ++ e ∷ [])) second)))
+  where
+    order_level : (us vs : List ℕ) → length us ≡ length vs → slice_cmp nat_cmp us vs ≡ list_order us vs
+    order_level us vs n = sym (ap (λ m. ordering_then (nat_cmp m (length vs)) (slice_cmp nat_cmp us vs)) n ∙ ap (λ r. ordering_then r (slice_cmp nat_cmp us vs)) (tied_itself nat_cmp_total (length vs)))

@@ -1,7 +1,7 @@
 -- Going back along a walk to the source, and from there to its end.
 use Rattle.std.proofs.Common.{◌≡◌, ◌-◌, ◌<◌, List, [], ◌∷◌, ◌++◌, reverse, Some, refl, sym, ap, ◌∙◌, append_assoc}
 use Rattle.std.specs.List.{slice_get}
-use Rattle.std.proofs.lemmas.List.{reverse-append}
+use Rattle.std.proofs.lemmas.List.{reverse-append, reverse-reverse}
 use Rattle.gc_base.specs.declared.walk.Step.{Step}
 use Rattle.gc_prod.specs.declared.moves.RunMove.{RunMove}
 use Rattle.gc_prod.specs.Products.{Setting}
@@ -49,14 +49,24 @@ module _ (setting : Setting) (walks : List FoundWalk) where
   )
 
 -- the last of a way is the first of the walk
-pub steps_next : (setting : Setting) (rest : List Link) (l : Link) (so_far whole : List Step) (way : List Link) → way ≡ rest ++ l ∷ [] → so_far ++ steps_along setting (reverse way) ≡ whole
-    → (so_far ++ steps_by setting.network l.by l.at.node) ++ steps_along setting (reverse rest) ≡ whole
-steps_next setting rest l so_far whole way is all =
-    append_assoc so_far (steps_by setting.network l.by l.at.node) (steps_along setting (reverse rest))
-    ∙ (ap (λ v. so_far ++ steps_along setting v) (sym (ap reverse is ∙ reverse_push rest l)) ∙ all)
-
 pub run_next : (rest : List Link) (l : Link) (so_far whole : List RunMove) (way : List Link) → way ≡ rest ++ l ∷ [] → so_far ++ run_along (reverse way) ≡ whole
     → (so_far ++ record { by = l.by; to = l.at.state } ∷ []) ++ run_along (reverse rest) ≡ whole
 run_next rest l so_far whole way is all =
     append_assoc so_far (record { by = l.by; to = l.at.state } ∷ []) (run_along (reverse rest))
     ∙ (ap (λ v. so_far ++ run_along v) (sym (ap reverse is ∙ reverse_push rest l)) ∙ all)
+
+-- the steps that were gone back along, the last first, and what is left of a walk
+pub steps_back : (setting : Setting) (walks : List FoundWalk) (l k : Link) (so_far whole : List Step) → 0 < l.before → slice_get walks (l.before - 1) ≡ Some (walk_of setting walks k)
+    → (walk_of setting walks l).steps ++ reverse so_far ≡ whole → (walk_of setting walks k).steps ++ reverse (so_far ++ reverse (steps_by setting.network l.by l.at.node)) ≡ whole
+steps_back setting walks l k so_far whole some at back =
+    let a = walk_of setting walks k in
+    let by_move = steps_by setting.network l.by l.at.node in
+    let is = numbered_at walks l.before a some at in
+    let turned : reverse (so_far ++ reverse by_move) ≡ by_move ++ reverse so_far =
+    reverse-append so_far (reverse by_move) ∙ ap (λ v. v ++ reverse so_far) (reverse-reverse by_move) in
+    ap (λ v. a.steps ++ v) turned
+    ∙ (sym (append_assoc a.steps by_move (reverse so_far)) ∙ (ap (λ o. steps_behind setting l o ++ reverse so_far) (sym is) ∙ back))
+
+pub steps_end : (setting : Setting) (walks : List FoundWalk) (l : Link) (so_far whole : List Step) → l.before ≡ 0
+    → (walk_of setting walks l).steps ++ reverse so_far ≡ whole → whole ≡ reverse so_far
+steps_end setting walks l so_far whole none back = sym back ∙ ap (λ n. steps_behind setting l (numbered walks n) ++ reverse so_far) none

@@ -10,7 +10,7 @@ use Rattle.gc_prod.specs.SymbolHops.{segment_steps}
 use Rattle.gc_search.specs.declared.comparing.Compared.{Compared}
 use Rattle.gc_search.specs.declared.tail.Tail.{Tail}
 use Rattle.gc_search.specs.Arrivals.{FoundWalk, edges_along}
-use Rattle.gc_search.specs.Links.{Link, numbered, walk_of}
+use Rattle.gc_search.specs.Links.{Link, numbered, walk_of, IsNumber}
 
 -- the edges of a move
 abbrev pub edges_by : Setting → By → List ℕ
@@ -61,3 +61,10 @@ compared_order setting walks c = ordering_then (slice_cmp nat_cmp (tail_edges se
 abbrev pub way_back : Setting → List FoundWalk → Compared → ℕ
 way_back setting walks c =
     (c.one.before + length (tail_edges setting walks c.one)) + (c.other.before + length (tail_edges setting walks c.other))
+
+-- two settled walks have equally many edges, and this is the order of these
+pub record IsLevelOrder (walks : List FoundWalk) (m n : ℕ) (told : Ordering) : Type 0 where
+  pub first : IsNumber walks m
+  pub second : IsNumber walks n
+  pub level : length (edges_if (numbered walks m)) ≡ length (edges_if (numbered walks n))
+  pub order : told ≡ slice_cmp nat_cmp (edges_if (numbered walks m)) (edges_if (numbered walks n))

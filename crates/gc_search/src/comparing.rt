@@ -8,7 +8,7 @@ ghost use Rattle.gc_search.specs.Tails.{IsLevel, IsMet, compared_order, edges_or
 use crate::link::Link;
 use crate::tail::{Tail, edge_at};
 use crate::tree::WalkTree;
-use gc_prod::Product;
+use gc_prod::{By, Product};
 use std::cmp::Ordering;
 
 // Two walks with equally many edges that are gone back along: what is left of each, and the order of
@@ -20,8 +20,37 @@ pub(crate) struct Compared {
     pub(crate) passed: Ordering,
 }
 
-// The order of two walks, by the number of edges and then by these one after another.
+// The order of two walks, by the number of edges and then by these one after another. Most often it is
+// told by the last edges and by the ranks of the settled walks before them.
 pub(crate) fn edges_order(tree: &WalkTree, a: &Link, b: &Link) -> Ordering
+    ensures { result ≡ edges_order tree.now.setting tree.now.walks a.now b.now }
+{
+    let one = tree.moved(a);
+    let other = tree.moved(b);
+    match ranked_before(tree, &one, &other) {
+        Some(order) => order,
+        None => whole_order(tree, &one, &other),
+    }
+}
+
+// The same, where both pass one edge behind settled walks of which the ranks tell the order.
+fn ranked_before(tree: &WalkTree, a: &Link, b: &Link) -> Option<Ordering>
+    ensures { IfSome result (λ order. order ≡ edges_order tree.now.setting tree.now.walks a.now b.now) }
+{
+    let By::Edge(one) = a.by else {
+        return None;
+    };
+    let By::Edge(other) = b.by else {
+        return None;
+    };
+    match tree.ranked_alike(a.before, b.before) {
+        None => None,
+        Some(order) => Some(order.then(one.cmp(&other))),
+    }
+}
+
+// The same, by going back along both.
+fn whole_order(tree: &WalkTree, a: &Link, b: &Link) -> Ordering
     ensures { result ≡ edges_order tree.now.setting tree.now.walks a.now b.now }
 {
     let one = tree.tail(a);

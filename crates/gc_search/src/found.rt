@@ -5,7 +5,7 @@ ghost use Rattle.gc_search.specs.Arrivals.{arrivals_at};
 ghost use Rattle.gc_search.specs.Finding.{walks_to, runs_to, potential_of};
 
 use crate::settled::Settled;
-use crate::way::{run_along, steps_along};
+use crate::way::run_along;
 use gc_base::{Cost, Id, Memory, Sequence, Walk};
 use gc_prod::{Pair, Run};
 use std::marker::Model;
@@ -54,10 +54,7 @@ impl<'a> Found<'a> {
         requires { i < length (walks_to self.now target) }
         ensures { IfOk result (λ walk. option_map (λ w. w.walk) (slice_get (walks_to self.now target) i) ≡ Some walk) }
     {
-        let steps = steps_along(
-            self.walks.tree.product,
-            self.walks.tree.way(self.place(target, i))?,
-        )?;
+        let steps = self.walks.tree.steps(self.place(target, i))?;
         Ok(Walk {
             start: self.source,
             steps: Sequence::from_vec(steps),

@@ -1,16 +1,18 @@
-ghost use Rattle.std.specs.Prelude.{◌≡◌, ◌⊎◌, ◌+◌, ◌^◌, ◌<◌, ◌≤◌, ◌++◌, ◌∷◌, [], ℕ, List, length, slice_get, Some, IfOk, IfSome, OnErr, OnOk};
+ghost use Rattle.std.specs.Prelude.{◌≡◌, ◌⊎◌, ◌+◌, ◌^◌, ◌<◌, ◌≤◌, ◌++◌, ◌∷◌, [], ℕ, List, length, slice_get, true, Some, IfOk, IfSome, OnErr, OnOk};
 ghost use Rattle.std.specs.Ordering.{nat_cmp};
 ghost use Rattle.std.specs.Cmp.Lexicographic.{slice_cmp};
+ghost use Rattle.gc_prod.specs.Products.{Setting};
 ghost use Rattle.gc_search.specs.Arrivals.{FoundWalk, extended, IsLowAt, Told};
 ghost use Rattle.gc_search.specs.Links.{numbered, walk_of, IsNumber, IsTold, IsWayOf};
 ghost use Rattle.gc_search.specs.Ranks.{AreNoLater};
-ghost use Rattle.gc_search.specs.Tails.{edges_if, edges_told, tail_edges, IsTail};
+ghost use Rattle.gc_search.specs.Tails.{edges_by, edges_if, edges_told, tail_edges, IsLevelOrder, IsTail};
 
 use crate::comparing::repeats_last;
 use crate::link::Link;
 use crate::tail::{Tail, edge_count};
-use gc_base::Memory;
-use gc_prod::{Move, Pair, Product};
+use crate::way::add_move_back;
+use gc_base::{Memory, Step};
+use gc_prod::{By, Move, Pair, Product};
 use std::alloc::Global;
 use std::cmp::Ordering;
 use std::marker::Model;
@@ -114,6 +116,31 @@ impl<'a> WalkTree<'a> {
         }
     }
 
+    // The order of two settled walks by their edges, as their ranks tell it where both cost the same and
+    // have equally many. The number 0 is that of none.
+    pub(crate) fn ranked_alike(&self, one: usize, other: usize) -> Option<Ordering>
+        ensures { IfSome result (IsLevelOrder self.now.walks one other) }
+    {
+        if !self.has(one)
+            || !self.has(other)
+            || self.edges_before(one) != self.edges_before(other)
+        {
+            return None;
+        }
+        self.ranked(one, other)
+    }
+
+    // The walk that a walk repeats by moves that stay, or itself.
+    pub(crate) fn moved(&self, link: &Link) -> Link
+        ensures { edges_told self.now.setting self.now.walks result ≡ edges_told self.now.setting self.now.walks link.now }
+    {
+        let mut moved = *link;
+        while stays(moved.by) && self.has(moved.before) {
+            moved = *self.at(moved.before - 1);
+        }
+        moved
+    }
+
     // The walk at a place, and a move behind it. A walk of 2^64 edges has no room in memory.
     pub(crate) fn extended(&self, place: usize, by: Move) -> Result<Link, Memory>
         requires within { place < length self.now.walks }
@@ -198,6 +225,21 @@ impl<'a> WalkTree<'a> {
         }
     }
 
+    // The steps of the walk at a place. They are met from the last to the first.
+    pub(crate) fn steps(&self, place: usize) -> Result<Vec<Step>, Memory>
+        requires { place < length self.now.walks }
+        ensures { IfOk result (λ steps. (a : FoundWalk) → slice_get self.now.walks place ≡ Some a → a.steps ≡ steps.items) }
+    {
+        let mut link = *self.at(place);
+        let mut steps = Vec::with_capacity(*self.links.allocator(), link.edges)?;
+        while link.before > 0 {
+            add_move_back(self.product, link.by, link.at.node, &mut steps)?;
+            link = *self.at(link.before - 1);
+        }
+        steps.reverse();
+        Ok(steps)
+    }
+
     // The moves of the walk at a place, the last first, each with the walk that it leads to.
     pub(crate) fn way(&self, place: usize) -> Result<Vec<Link>, Memory>
         requires { place < length self.now.walks }
@@ -211,4 +253,11 @@ impl<'a> WalkTree<'a> {
         }
         Ok(way)
     }
+}
+
+// Whether a move stays at its node.
+fn stays(by: By) -> bool
+    ensures { result ≡ true → (setting : Setting) → edges_by setting by ≡ [] }
+{
+    matches!(by, By::Nothing)
 }

@@ -1,5 +1,0 @@
-use Rattle.std.proofs.Common.{◌≡◌, ◌++◌, drop}
-use Rattle.gc_search.proofs.way.add_all.Given as goal
-
-abbrev pub invariant-loop-step : goal.invariant-loop-step
-invariant-loop-step l = l.steps.items ++ drop l.step-index l.more ≡ l.initial.steps.items ++ l.more
