@@ -52,7 +52,7 @@ fn node_hops<L: Ledger>(
     ensures exact { IfOk result (λ found. found.items ≡ at_nodes (option_copied label.entry) graph.now.nodes) }
     ensures few { steps.new ≤ steps.old + length graph.now.nodes }
 {
-    let mut found = Vec::new(alloc);
+    let mut found = Vec::with_capacity(alloc, room_for_nodes(graph, label))?;
     for i in 0..graph.node_count() {
         let node = graph.node(i, steps);
         if node_fits(node, label) {
@@ -60,6 +60,14 @@ fn node_hops<L: Ledger>(
         }
     }
     Ok(found)
+}
+
+// How many nodes fit, so that room for their hops is reserved once.
+fn room_for_nodes(graph: &Graph, label: Option<&Name>) -> usize {
+    match label {
+        None => graph.node_count(),
+        Some(label) => graph.label_count(Kind::Node, label),
+    }
 }
 
 // The hops along the edges that have a label.
@@ -87,6 +95,14 @@ fn asked<'a>(graph: &Graph, label: &'a Name) -> Option<&'a Name>
     }
 }
 
+// How many edges fit, so that room for their hops is reserved once.
+fn room_for_edges(graph: &Graph, label: Option<&Name>) -> usize {
+    match label {
+        None => graph.edge_count(),
+        Some(label) => graph.label_count(Kind::Edge, label),
+    }
+}
+
 // The hops along the edges that fit.
 fn edge_hops<L: Ledger>(
     alloc: Global,
@@ -98,7 +114,7 @@ fn edge_hops<L: Ledger>(
     ensures exact { IfOk result (λ found. found.items ≡ along_edges way (option_copied label.entry) graph.now.edges) }
     ensures few { steps.new ≤ steps.old + length graph.now.edges }
 {
-    let mut found = Vec::new(alloc);
+    let mut found = Vec::with_capacity(alloc, room_for_edges(graph, label))?;
     for i in 0..graph.edge_count() {
         let edge = graph.edge(i, steps);
         if edge_fits(edge, label) {

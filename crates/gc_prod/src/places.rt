@@ -15,7 +15,27 @@ pub fn place_of(nodes: &[Id], node: Id) -> usize
     ensures within { is_among nodes.now node ≡ true → result < length nodes.now }
     ensures there { is_among nodes.now node ≡ true → slice_index nodes.now result ≡ node }
 {
-    let guess = guessed(nodes, node);
+    place_near(nodes, first_of(nodes), node)
+}
+
+// The first of some numbers, or 0 where there is none.
+pub(crate) fn first_of(nodes: &[Id]) -> u64 {
+    match nodes.first() {
+        None => 0,
+        Some(first) => first.get(),
+    }
+}
+
+// The place of a number among ascending ones, of which the first is told, so that many are looked for
+// with one read of it. Whatever is told for the first, the place is right.
+#[inline(always)]
+pub(crate) fn place_near(nodes: &[Id], first: u64, node: Id) -> usize
+    requires { Ascends nat_cmp nodes.now }
+    ensures place { result ≡ place_in nodes.now node }
+    ensures within { is_among nodes.now node ≡ true → result < length nodes.now }
+    ensures there { is_among nodes.now node ≡ true → slice_index nodes.now result ≡ node }
+{
+    let guess = node.get().wrapping_sub(first) as usize;
     if stands_at(nodes, guess, node) {
         guess
     } else {
@@ -24,6 +44,7 @@ pub fn place_of(nodes: &[Id], node: Id) -> usize
 }
 
 // The same, where some are left out.
+#[inline(never)]
 fn sought(nodes: &[Id], node: Id) -> usize
     requires { Ascends nat_cmp nodes.now }
     ensures { result ≡ place_in nodes.now node }
@@ -47,13 +68,6 @@ fn spread(nodes: &[Id], node: Id) -> usize {
     let ahead = node.get().saturating_sub(first.get());
     let most = nodes.len().saturating_sub(1) as u64;
     ahead.saturating_mul(most).checked_div(width).unwrap_or(0) as usize
-}
-
-fn guessed(nodes: &[Id], node: Id) -> usize {
-    match nodes.first() {
-        None => 0,
-        Some(first) => node.get().saturating_sub(first.get()) as usize,
-    }
 }
 
 fn stands_at(nodes: &[Id], place: usize, node: Id) -> bool

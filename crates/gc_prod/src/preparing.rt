@@ -13,7 +13,7 @@ ghost use Rattle.gc_prod.specs.Products.{bundles};
 use crate::by_number::ByNumber;
 use crate::hop_lists::symbol_hops;
 use crate::moves::Hop;
-use crate::places::place_of;
+use crate::places::{first_of, place_near};
 use crate::segment::SegmentList;
 use gc_automata::{Automaton, On};
 use gc_base::{Id, Memory, Steps};
@@ -125,9 +125,10 @@ fn places_left(alloc: Global, nodes: &[Id], hops: &[Hop]) -> Result<Vec<usize>, 
     requires { Ascends nat_cmp nodes.now }
     ensures { IfOk result (λ places. places.items ≡ map (λ h. place_in nodes.now h.from) hops.now) }
 {
+    let first = first_of(nodes);
     let mut places = Vec::with_capacity(alloc, hops.len())?;
     for hop in hops {
-        places.push(place_of(nodes, hop.from))?;
+        places.push(place_near(nodes, first, hop.from))?;
     }
     Ok(places)
 }
@@ -145,9 +146,10 @@ fn places_reached(alloc: Global, nodes: &[Id], hops: &[Hop]) -> Result<Vec<usize
     requires { Ascends nat_cmp nodes.now }
     ensures { IfOk result (λ places. places.items ≡ map (λ h. place_in nodes.now h.to) hops.now) }
 {
+    let first = first_of(nodes);
     let mut places = Vec::with_capacity(alloc, hops.len())?;
     for hop in hops {
-        places.push(place_of(nodes, hop.to))?;
+        places.push(place_near(nodes, first, hop.to))?;
     }
     Ok(places)
 }

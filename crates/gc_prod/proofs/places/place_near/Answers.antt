@@ -1,11 +1,11 @@
 use Rattle.std.proofs.Common.{◌<◌, ◌∙◌, ap, refl, sym, subst, length, get_or}
 use Rattle.gc_prod.proofs.PlaceLaws.{place_is, place_there}
-use Rattle.gc_prod.proofs.places.place_of.Goals as goal
+use Rattle.gc_prod.proofs.places.place_near.Goals as goal
 
 pub returns-then-stands_at : goal.returns-then-stands_at
 returns-then-stands_at c =
     record {
-      place = place_is c.args.nodes.now c.guessed-guess.result c.args.node c.requires (c.if-stands_at.ensures.within refl) (c.if-stands_at.ensures.there refl);
+      place = place_is c.args.nodes.now _ c.args.node c.requires (c.if-stands_at.ensures.within refl) (c.if-stands_at.ensures.there refl);
       within = λ among. c.if-stands_at.ensures.within refl;
       there = λ among. c.if-stands_at.ensures.there refl;
     }
