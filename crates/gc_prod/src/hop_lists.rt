@@ -35,10 +35,18 @@ pub(crate) fn symbol_hops<L: Ledger>(
         On::Empty => node_hops(alloc, graph, None, steps),
         On::Label(label) => labelled_hops(alloc, graph, Way::Forward, label, steps),
         On::Back(label) => labelled_hops(alloc, graph, Way::Back, label, steps),
-        On::Any => edge_hops(alloc, graph, Way::Forward, None, steps),
-        On::AnyBack => edge_hops(alloc, graph, Way::Back, None, steps),
+        On::Any => edge_hops(alloc, graph, Way::Forward, None, graph.edge_count(), steps),
+        On::AnyBack => edge_hops(alloc, graph, Way::Back, None, graph.edge_count(), steps),
         On::Test(label) => node_hops(alloc, graph, Some(label), steps),
         On::View(view) => segment_hops(alloc, segments, view, steps),
+    }
+}
+
+// For how many nodes there is room from the first: for all, unless they are tested.
+fn room_at(graph: &Graph, label: Option<&Name>) -> usize {
+    match label {
+        None => graph.node_count(),
+        Some(_) => 0,
     }
 }
 
@@ -52,7 +60,7 @@ fn node_hops<L: Ledger>(
     ensures exact { IfOk result (λ found. found.items ≡ at_nodes (option_copied label.entry) graph.now.nodes) }
     ensures few { steps.new ≤ steps.old + length graph.now.nodes }
 {
-    let mut found = Vec::with_capacity(alloc, room_for_nodes(graph, label))?;
+    let mut found = Vec::with_capacity(alloc, room_at(graph, label))?;
     for i in 0..graph.node_count() {
         let node = graph.node(i, steps);
         if node_fits(node, label) {
@@ -60,14 +68,6 @@ fn node_hops<L: Ledger>(
         }
     }
     Ok(found)
-}
-
-// How many nodes fit, so that room for their hops is reserved once.
-fn room_for_nodes(graph: &Graph, label: Option<&Name>) -> usize {
-    match label {
-        None => graph.node_count(),
-        Some(label) => graph.label_count(Kind::Node, label),
-    }
 }
 
 // The hops along the edges that have a label.
@@ -81,40 +81,36 @@ fn labelled_hops<L: Ledger>(
     ensures exact { IfOk result (λ found. found.items ≡ along_edges way (Some label.now) graph.now.edges) }
     ensures few { steps.new ≤ steps.old + length graph.now.edges }
 {
-    edge_hops(alloc, graph, way, asked(graph, label), steps)
+    let count = graph.label_count(Kind::Edge, label);
+    edge_hops(alloc, graph, way, asked(graph, label, count), count, steps)
 }
 
-// What edges have to be tested for where a label is asked for: nothing where all of them have it.
-fn asked<'a>(graph: &Graph, label: &'a Name) -> Option<&'a Name>
+// What edges have to be tested for where a label is asked for that so many have: nothing where all
+// of them have it.
+fn asked<'a>(graph: &Graph, label: &'a Name, count: usize) -> Option<&'a Name>
+    requires { count ≡ length (filter (λ e. fits (Some label.now) e.labels) graph.now.edges) }
     ensures { filter (λ e. fits (option_copied result) e.labels) graph.now.edges ≡ filter (λ e. fits (Some label.now) e.labels) graph.now.edges }
 {
-    if graph.label_count(Kind::Edge, label) == graph.edge_count() {
+    if count == graph.edge_count() {
         None
     } else {
         Some(label)
     }
 }
 
-// How many edges fit, so that room for their hops is reserved once.
-fn room_for_edges(graph: &Graph, label: Option<&Name>) -> usize {
-    match label {
-        None => graph.edge_count(),
-        Some(label) => graph.label_count(Kind::Edge, label),
-    }
-}
-
-// The hops along the edges that fit.
+// The hops along the edges that fit, for so many of which there is room from the first.
 fn edge_hops<L: Ledger>(
     alloc: Global,
     graph: &Graph,
     way: Way,
     label: Option<&Name>,
+    room: usize,
     steps: &mut Steps<L>,
 ) -> Result<Vec<Hop>, Memory>
     ensures exact { IfOk result (λ found. found.items ≡ along_edges way (option_copied label.entry) graph.now.edges) }
     ensures few { steps.new ≤ steps.old + length graph.now.edges }
 {
-    let mut found = Vec::with_capacity(alloc, room_for_edges(graph, label))?;
+    let mut found = Vec::with_capacity(alloc, room)?;
     for i in 0..graph.edge_count() {
         let edge = graph.edge(i, steps);
         if edge_fits(edge, label) {
