@@ -1,7 +1,7 @@
--- The marks of pairs, one for each node and state.
+-- The marks of pairs, one for each state and node.
 use Rattle.std.proofs.Common.{◌≡◌, ◌≢◌, ℕ, zero, suc, ◌+◌, ◌*◌, ◌<◌, ◌≤◌, Bool, true, false, not, cond, ◌||◌, ◌&&◌, ◌==◌, List, [], ◌∷◌, ◌++◌, ◌⊎◌, inl, inr, length, get_or, set, count_by, refl, sym, ap, ap₂, subst, ◌∙◌, arith, length-append, length-set, get_or-set_other, get_or-set_same}
 use Rattle.std.specs.Ordering.{nat_cmp}
-use Rattle.std.proofs.Math.Nat.{mul-le-mul_right}
+use Rattle.std.proofs.Math.Nat.{mul-le-mul_right, mul_comm}
 use Rattle.std.proofs.lemmas.Bool.{eq-eqb}
 use Rattle.std.proofs.lemmas.Bool.Decides.{nat_tests}
 use Rattle.std.proofs.lemmas.List.Folds.{list_any-append}
@@ -90,40 +90,47 @@ eqb_other a b h = grind (arith, nat_tests)
 
 module _ (m : Marking) (marked : List Bool) (is : IsMarked m marked) (place state : ℕ) (below : place < length m.nodes) (less : state < m.width) where
   abbrev mark_at : ℕ
-  mark_at = place * m.width + state
+  mark_at = state * length m.nodes + place
 
   abbrev pub new_pair : Pair
   new_pair = pair (get_or m.nodes place 0) state
 
   abbrev IsRight : ℕ → ℕ → Type 0
-  IsRight p s = get_or (set marked mark_at true) (p * m.width + s) false ≡ has_pair (m.pairs ++ new_pair ∷ []) (pair (get_or m.nodes p 0) s)
+  IsRight p s = get_or (set marked mark_at true) (s * length m.nodes + p) false ≡ has_pair (m.pairs ++ new_pair ∷ []) (pair (get_or m.nodes p 0) s)
 
   within : mark_at < length marked
-  within = omega (arith, is.size, mark_within (length m.nodes) m.width place state below less)
+  within = omega (arith, is.size, mul_comm (length m.nodes) m.width, mark_within m.width (length m.nodes) state place less below)
 
   right_here : IsRight place state
   right_here =
       get_or-set_same marked mark_at true false within
       ∙ sym (has_more m.pairs new_pair new_pair ∙ (ap (λ b. has_pair m.pairs new_pair || b) (itself new_pair) ∙ or_true (has_pair m.pairs new_pair)))
 
-  right_there : (p s : ℕ) → p < length m.nodes → s < m.width → p * m.width + s ≢ mark_at → same_pair new_pair (pair (get_or m.nodes p 0) s) ≡ false → IsRight p s
+  right_there : (p s : ℕ) → p < length m.nodes → s < m.width → s * length m.nodes + p ≢ mark_at → same_pair new_pair (pair (get_or m.nodes p 0) s) ≡ false → IsRight p s
   right_there p s low high other fails =
       let q = pair (get_or m.nodes p 0) s in
-      get_or-set_other marked mark_at (p * m.width + s) true false other
+      get_or-set_other marked mark_at (s * length m.nodes + p) true false other
       ∙ (is.exact p s low high ∙ sym (has_more m.pairs new_pair q ∙ (ap (λ b. has_pair m.pairs q || b) fails ∙ or_false (has_pair m.pairs q))))
 
   right : (p s : ℕ) → p < length m.nodes → s < m.width → (b c : Bool) → (p == place) ≡ b → (s == state) ≡ c → IsRight p s
   right p s low high true true same alike =
       subst (λ q. IsRight q s) (sym (eqb_same p place same)) (subst (λ t. IsRight place t) (sym (eqb_same s state alike)) right_here)
   right p s low high true false same other =
-      let is_place = eqb_same p place same in
+      let apart : s ≢ state = eqb_other s state other in
       right_there p s low high
-      (λ e. eqb_other s state other (let row : p * m.width ≡ place * m.width = ap (λ q. q * m.width) is_place in omega (arith, e, row)))
-      (ap (λ b. (get_or m.nodes place 0 == get_or m.nodes p 0) && b) (differs state s (λ e. eqb_other s state other (sym e))) ∙ and_false _)
-  right p s low high false c other alike =
+      (λ e. apart (same_place (length m.nodes) s p state place low below e))
+      (ap (λ b. (get_or m.nodes place 0 == get_or m.nodes p 0) && b) (differs state s (λ e. apart (sym e))) ∙ and_false _)
+  right p s low high false true other alike =
       let apart : p ≢ place = eqb_other p place other in
-      right_there p s low high (λ e. apart (same_place m.width p s place state high less e))
+      let is_state = eqb_same s state alike in
+      right_there p s low high
+      (λ e. apart (let row : s * length m.nodes ≡ state * length m.nodes = ap (λ t. t * length m.nodes) is_state in omega (arith, e, row)))
       (ap (λ b. b && (state == s)) (differs (get_or m.nodes place 0) (get_or m.nodes p 0) (λ e. others_differ m.nodes place p is.ascend below low (λ f. apart (sym f)) e)))
+  right p s low high false false other unlike =
+      let apart : s ≢ state = eqb_other s state unlike in
+      right_there p s low high
+      (λ e. apart (same_place (length m.nodes) s p state place low below e))
+      (ap (λ b. (get_or m.nodes place 0 == get_or m.nodes p 0) && b) (differs state s (λ e. apart (sym e))) ∙ and_false _)
 
   pub marked_more : get_or marked mark_at false ≡ false → IsNumbered m.nodes m.width new_pair
       → IsMarked (record { nodes = m.nodes; width = m.width; pairs = m.pairs ++ new_pair ∷ [] }) (set marked mark_at true)

@@ -36,12 +36,12 @@ pair_at nodes s = pair (slice_index nodes s.place) s.state
 abbrev pub IsSpot : List ℕ → ℕ → Spot → Type 0
 IsSpot nodes width s = (s.place < length nodes) × (s.state < width)
 
--- there is a mark for each node and state, which says whether the pair is marked
+-- there is a mark for each state and node, which says whether the pair is marked
 pub record IsMarked (m : Marking) (marked : List Bool) : Type 0 where
   pub ascend : Ascends nat_cmp m.nodes
   pub size : length marked ≡ length m.nodes * m.width
   pub exact : (place state : ℕ) → place < length m.nodes → state < m.width
-      → slice_index_or marked (place * m.width + state) false ≡ has_pair m.pairs (pair (slice_index_or m.nodes place 0) state)
+      → slice_index_or marked (state * length m.nodes + place) false ≡ has_pair m.pairs (pair (slice_index_or m.nodes place 0) state)
   pub numbered : AllByRecursion (IsNumbered m.nodes m.width) m.pairs
   pub room : length m.pairs + count_by not marked ≡ length marked
 

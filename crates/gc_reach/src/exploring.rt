@@ -18,8 +18,9 @@ fn follow(landing: &Landing, marks: &mut Marks) -> Result<(), Memory>
     requires state { landing.now.state < marks.old.width }
     ensures { OnOk result (marks.new ≡ record marks.old { pairs = visit_all marks.old.pairs (landed marks.old.nodes landing.now) }) }
 {
+    let start = marks.start_of(landing.state);
     for place in landing.places {
-        marks.mark_at(*place, landing.state)?;
+        marks.mark_from(start, *place, landing.state)?;
     }
     Ok(())
 }

@@ -21,7 +21,8 @@ pub(crate) struct Spot {
 }
 
 // Which pairs of a node and a state are marked, in the order of their marking. One mark for each pair
-// that there may be stands in one array. Contracts see the pairs; kept are the places of their nodes.
+// that there may be stands in one array, those of one state together, by the places of their nodes.
+// Contracts see the pairs; kept are the places of their nodes.
 #[derive(Drop)]
 pub(crate) struct Marks<'a> {
     nodes: &'a [Id],
@@ -132,7 +133,29 @@ impl<'a> Marks<'a> {
         requires state { state < self.old.width }
         ensures { OnOk result (self.new ≡ record self.old { pairs = visit self.old.pairs (pair (slice_index self.old.nodes place) state) }) }
     {
-        let at = place * self.width + state as usize;
+        let start = self.start_of(state);
+        self.mark_from(start, place, state)
+    }
+
+    // Where the marks of the pairs of a state start.
+    pub(crate) fn start_of(&self, state: u32) -> usize
+        requires { state < self.now.width }
+        ensures { result ≡ state * length self.now.nodes }
+    {
+        state as usize * self.nodes.len()
+    }
+
+    // The same as `mark_at`, where it is told at which mark those of the state start. Where many pairs
+    // of one state are marked, that is found once.
+    #[inline(always)]
+    pub(crate) fn mark_from(&mut self, start: usize, place: usize, state: u32) -> Result<(), Memory>
+        requires start { start ≡ state * length self.old.nodes }
+        requires place { place < length self.old.nodes }
+        requires state { state < self.old.width }
+        ensures { OnOk result (self.new ≡ record self.old { pairs = visit self.old.pairs (pair (slice_index self.old.nodes place) state) }) }
+    {
+        let _marked = self.marked.len();
+        let at = start + place;
         if !self.marked[at] {
             self.spots.push(Spot { place, state })?;
             self.marked[at] = true;
@@ -169,7 +192,7 @@ impl<'a> Marks<'a> {
         requires state { state < self.now.width }
         ensures { result ≡ has_pair self.now.pairs (pair (slice_index self.now.nodes place) state) }
     {
-        self.marked[place * self.width + state as usize]
+        self.marked[self.start_of(state) + place]
     }
 }
 
