@@ -1,5 +1,4 @@
-ghost use Rattle.std.specs.Prelude.{◌≡◌, ◌+◌, ◌≤◌, length, IfOk, Some, nat_eq};
-ghost use Rattle.std.specs.List.{filter};
+ghost use Rattle.std.specs.Prelude.{◌≡◌, ◌+◌, ◌≤◌, length, IfOk, None, Some, nat_eq};
 ghost use Rattle.std.specs.Cmp.Lexicographic.{pointwise};
 ghost use Rattle.std.specs.Option.{option_copied};
 ghost use Rattle.gc_prod.specs.SymbolHops.{hops, at_nodes, along_edges, along_edge, by_segments, fits, still, by_segment};
@@ -35,8 +34,8 @@ pub(crate) fn symbol_hops<L: Ledger>(
         On::Empty => node_hops(alloc, graph, None, steps),
         On::Label(label) => labelled_hops(alloc, graph, Way::Forward, label, steps),
         On::Back(label) => labelled_hops(alloc, graph, Way::Back, label, steps),
-        On::Any => edge_hops(alloc, graph, Way::Forward, None, graph.edge_count(), steps),
-        On::AnyBack => edge_hops(alloc, graph, Way::Back, None, graph.edge_count(), steps),
+        On::Any => all_edge_hops(alloc, graph, Way::Forward, steps),
+        On::AnyBack => all_edge_hops(alloc, graph, Way::Back, steps),
         On::Test(label) => node_hops(alloc, graph, Some(label), steps),
         On::View(view) => segment_hops(alloc, segments, view, steps),
     }
@@ -70,7 +69,7 @@ fn node_hops<L: Ledger>(
     Ok(found)
 }
 
-// The hops along the edges that have a label.
+// The hops along the edges that have a label. Where all edges have it, none is looked at for it.
 fn labelled_hops<L: Ledger>(
     alloc: Global,
     graph: &Graph,
@@ -82,32 +81,40 @@ fn labelled_hops<L: Ledger>(
     ensures few { steps.new ≤ steps.old + length graph.now.edges }
 {
     let count = graph.label_count(Kind::Edge, label);
-    edge_hops(alloc, graph, way, asked(graph, label, count), count, steps)
-}
-
-// What edges have to be tested for where a label is asked for that so many have: nothing where all
-// of them have it.
-fn asked<'a>(graph: &Graph, label: &'a Name, count: usize) -> Option<&'a Name>
-    requires { count ≡ length (filter (λ e. fits (Some label.now) e.labels) graph.now.edges) }
-    ensures { filter (λ e. fits (option_copied result) e.labels) graph.now.edges ≡ filter (λ e. fits (Some label.now) e.labels) graph.now.edges }
-{
     if count == graph.edge_count() {
-        None
+        all_edge_hops(alloc, graph, way, steps)
     } else {
-        Some(label)
+        edge_hops(alloc, graph, way, label, count, steps)
     }
 }
 
-// The hops along the edges that fit, for so many of which there is room from the first.
+// The hops along all edges.
+fn all_edge_hops<L: Ledger>(
+    alloc: Global,
+    graph: &Graph,
+    way: Way,
+    steps: &mut Steps<L>,
+) -> Result<Vec<Hop>, Memory>
+    ensures exact { IfOk result (λ found. found.items ≡ along_edges way None graph.now.edges) }
+    ensures few { steps.new ≤ steps.old + length graph.now.edges }
+{
+    let mut found = Vec::with_capacity(alloc, graph.edge_count())?;
+    for i in 0..graph.edge_count() {
+        found.push(edge_hop(way, graph.edge(i, steps)))?;
+    }
+    Ok(found)
+}
+
+// The hops along the edges that are tested for a label, with room for so many.
 fn edge_hops<L: Ledger>(
     alloc: Global,
     graph: &Graph,
     way: Way,
-    label: Option<&Name>,
+    label: &Name,
     room: usize,
     steps: &mut Steps<L>,
 ) -> Result<Vec<Hop>, Memory>
-    ensures exact { IfOk result (λ found. found.items ≡ along_edges way (option_copied label.entry) graph.now.edges) }
+    ensures exact { IfOk result (λ found. found.items ≡ along_edges way (Some label.now) graph.now.edges) }
     ensures few { steps.new ≤ steps.old + length graph.now.edges }
 {
     let mut found = Vec::with_capacity(alloc, room)?;
@@ -147,10 +154,10 @@ fn node_fits(node: &NodeInfo, label: Option<&Name>) -> bool
     has_label(&node.labels, label)
 }
 
-fn edge_fits(edge: &EdgeInfo, label: Option<&Name>) -> bool
-    ensures { result ≡ fits (option_copied label.entry) edge.now.labels }
+fn edge_fits(edge: &EdgeInfo, label: &Name) -> bool
+    ensures { result ≡ fits (Some label.now) edge.now.labels }
 {
-    has_label(&edge.labels, label)
+    has_label(&edge.labels, Some(label))
 }
 
 fn is_of(segment: &Segment, view: &Name) -> bool
