@@ -121,14 +121,15 @@ fn by_node(alloc: Global, nodes: &[Id], hops: &[Hop]) -> Result<ByNumber<Hop>, M
 }
 
 // The places of the nodes from which hops lead.
+#[inline(never)]
 fn places_left(alloc: Global, nodes: &[Id], hops: &[Hop]) -> Result<Vec<usize>, Memory>
     requires { Ascends nat_cmp nodes.now }
     ensures { IfOk result (λ places. places.items ≡ map (λ h. place_in nodes.now h.from) hops.now) }
 {
     let first = first_of(nodes);
-    let mut places = Vec::with_capacity(alloc, hops.len())?;
-    for hop in hops {
-        places.push(place_near(nodes, first, hop.from))?;
+    let mut places = vec![in alloc; 0usize; hops.len()]?;
+    for i in 0..hops.len() {
+        places[i] = place_near(nodes, first, hops[i].from);
     }
     Ok(places)
 }
@@ -142,14 +143,15 @@ fn targets_of(alloc: Global, nodes: &[Id], hops: &ByNumber<Hop>) -> Result<ByNum
     hops.beside(alloc, places)
 }
 
+#[inline(never)]
 fn places_reached(alloc: Global, nodes: &[Id], hops: &[Hop]) -> Result<Vec<usize>, Memory>
     requires { Ascends nat_cmp nodes.now }
     ensures { IfOk result (λ places. places.items ≡ map (λ h. place_in nodes.now h.to) hops.now) }
 {
     let first = first_of(nodes);
-    let mut places = Vec::with_capacity(alloc, hops.len())?;
-    for hop in hops {
-        places.push(place_near(nodes, first, hop.to))?;
+    let mut places = vec![in alloc; 0usize; hops.len()]?;
+    for i in 0..hops.len() {
+        places[i] = place_near(nodes, first, hops[i].to);
     }
     Ok(places)
 }
