@@ -14,6 +14,7 @@ mod Keys
 mod ListTurns
 mod LoadedAgain
 mod ManyItems
+mod Members
 pub mod PartsLoadBack
 mod Passing
 pub mod ReadsBack

@@ -13,6 +13,7 @@ pub mod LabelLists
 pub mod ListWalks
 pub mod LiteralValues
 pub mod Located
+pub mod Members
 pub mod PartsSeen
 pub mod PropertyMembers
 pub mod Reading

@@ -1,18 +1,19 @@
 //! The values of an element, read as its members come.
-ghost use Rattle.std.specs.Prelude.{◌≡◌, ◌<◌, length, map, true, false, OnOk};
+ghost use Rattle.std.specs.Prelude.{◌≡◌, ◌<◌, length, true, false, OnOk};
 ghost use Rattle.json.specs.Json.{parse_map};
 ghost use Rattle.serde_json.specs.Data.{no_members};
 ghost use Rattle.serde_json.specs.View.{view};
+ghost use Rattle.gc_json.specs.Members.{member_key};
 ghost use Rattle.gc_json.specs.ElementSeen.{element_seen};
-ghost use Rattle.gc_json.specs.ElementValues.{keys_of, no_values, values_at, element_of, values_after};
+ghost use Rattle.gc_json.specs.ElementValues.{no_values, values_at, element_of, values_after};
 ghost use Rattle.gc_json.specs.Takes.{Takes};
 ghost use Rattle.gc_json.specs.Tokens.{value_data, members_data};
 
 use crate::checking::check_token;
 use crate::finding::opens_object;
+use crate::member::Member;
 use crate::token_values::read_value;
 use crate::unread::Unread;
-use crate::values::is_key_among;
 use gc_ppg::Kind;
 use json::Reader;
 use serde_json::Value;
@@ -69,29 +70,27 @@ impl Element {
     fn put(&mut self, kind: Kind, key: &str, value: Value)
         ensures { element_seen self.new ≡ values_after kind (element_seen self.old) key.now (view value) }
     {
-        if !is_key_among(key, keys_of(kind)) {
-            self.is_known = false;
-        }
-        match key {
-            "id" => self.id = Some(value),
-            "from" => self.from = Some(value),
-            "to" => self.to = Some(value),
-            "labels" => self.labels = Some(value),
-            "properties" => self.properties = Some(value),
-            "walk" => self.walk = Some(value),
-            _ => drop(value),
+        match Member::of(key) {
+            Some(member) => self.put_member(kind, member, value),
+            None => self.is_known = false,
         }
     }
-}
 
-// The keys that an element of a kind may have.
-fn keys_of(kind: Kind) -> &'static [&'static str]
-    ensures { map (λ k. k.now) result.now ≡ keys_of kind }
-{
-    match kind {
-        Kind::Node => &["id", "labels", "properties"],
-        Kind::Edge => &["from", "id", "labels", "properties", "to"],
-        Kind::Path => &["id", "labels", "properties", "walk"],
+    // Puts a value at the key of a member.
+    fn put_member(&mut self, kind: Kind, member: Member, value: Value)
+        ensures { element_seen self.new ≡ values_after kind (element_seen self.old) (member_key member) (view value) }
+    {
+        if !member.is_of(kind) {
+            self.is_known = false;
+        }
+        match member {
+            Member::Id => self.id = Some(value),
+            Member::From => self.from = Some(value),
+            Member::To => self.to = Some(value),
+            Member::Labels => self.labels = Some(value),
+            Member::Properties => self.properties = Some(value),
+            Member::Walk => self.walk = Some(value),
+        }
     }
 }
 

@@ -17,6 +17,7 @@ mod laws;
 mod listing;
 mod literals;
 mod loading;
+mod member;
 mod nodes;
 mod numbers;
 mod parts;

@@ -1,6 +1,5 @@
-ghost use Rattle.std.specs.Prelude.{◌≡◌, map, nat_eq, option_map};
-ghost use Rattle.std.specs.Cmp.Lexicographic.{pointwise};
-ghost use Rattle.gc_json.specs.JsonValues.{number_in, is_key_among, items_in, members_in};
+ghost use Rattle.std.specs.Prelude.{◌≡◌, option_map};
+ghost use Rattle.gc_json.specs.JsonValues.{number_in, items_in, members_in};
 ghost use Rattle.gc_json.specs.PartsSeen.{members_seen};
 ghost use Rattle.gc_json.specs.Reading.{Gives};
 ghost use Rattle.serde_json.specs.View.{view, items_view};
@@ -13,25 +12,6 @@ pub(crate) fn number_in(value: &Option<Value>) -> Option<u64>
     ensures { result ≡ number_in (option_map view value.now) }
 {
     value.as_ref().and_then(Value::as_u64)
-}
-
-// Whether a key is among some.
-pub(crate) fn is_key_among(key: &str, keys: &[&str]) -> bool
-    ensures { result ≡ is_key_among (map (λ k. k.now) keys.now) key.now }
-{
-    for other in keys {
-        if is_same_key(key, other) {
-            return true;
-        }
-    }
-    false
-}
-
-// Whether two keys are one. Most differ in length, which is told at once.
-fn is_same_key(key: &str, other: &str) -> bool
-    ensures { result ≡ pointwise nat_eq key.now other.now }
-{
-    key.len() == other.len() && key == other
 }
 
 // The items of an array; without one there are none.
