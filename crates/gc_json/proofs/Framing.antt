@@ -19,14 +19,14 @@ use Rattle.gc_json.proofs.ByToken.{data_by_token}
 use Rattle.gc_json.proofs.TokenTurns as turns
 use Rattle.gc_json.proofs.TokenTurns.{value_is}
 
-abbrev one : List ℕ → Data → Entries
+abbrev pub one : List ℕ → Data → Entries
 one k d = (k, d) ∷ []
 
 after_last : (b : Bool) (d : Data) (o p : Option Data) → option_or (if b then Some d else o) p ≡ (if b then Some d else option_or o p)
 after_last true d o p = refl
 after_last false d o p = refl
 
-last_at-append : (key : List ℕ) (es : Entries) (k : List ℕ) (d : Data) → last_at key (es ++ one k d) ≡ (if bytes_eq k key then Some d else last_at key es)
+pub last_at-append : (key : List ℕ) (es : Entries) (k : List ℕ) (d : Data) → last_at key (es ++ one k d) ≡ (if bytes_eq k key then Some d else last_at key es)
 last_at-append key [] k d = refl
 last_at-append key (e ∷ es) k d =
     let here : Option Data = if bytes_eq e.0 key then Some e.1 else None in
@@ -46,7 +46,7 @@ and_assoc : (a b c : Bool) → (a && (b && c)) ≡ ((a && b) && c)
 and_assoc true b c = refl
 and_assoc false b c = refl
 
-and_true : (a : Bool) → (a && true) ≡ a
+pub and_true : (a : Bool) → (a && true) ≡ a
 and_true true = refl
 and_true false = refl
 
@@ -72,7 +72,7 @@ made_of a b c v w = record { nodes = a; edges = b; paths = c; is_version_1 = v; 
 same_frame : (a b c p q r : ListPlace) (v w x y : Bool) → a ≡ p → b ≡ q → c ≡ r → v ≡ x → w ≡ y → made_of a b c v w ≡ made_of p q r x y
 same_frame a b c p q r v w x y e f g h i = cc
 
-frame_of-append : (es : Entries) (k : List ℕ) (d : Data) → frame_of (es ++ one k d) ≡ frame_after (frame_of es) k d
+pub frame_of-append : (es : Entries) (k : List ℕ) (d : Data) → frame_of (es ++ one k d) ≡ frame_after (frame_of es) k d
 unfolding made_of
 frame_of-append es k d =
     same_frame _ _ _ _ _ _ _ _ _ _ (place_of-append (codes "nodes") es k d) (place_of-append (codes "edges") es k d) (place_of-append (codes "paths") es k d)
@@ -80,7 +80,7 @@ frame_of-append es k d =
 
 -- ---- a turn of the loop
 
-added : (before : Entries) (k : List ℕ) (d : Data) (o : Option (Entries × List Token)) → parse_map (λ es. before ++ es) (parse_map (λ es. (k, d) ∷ es) o) ≡ parse_map (λ es. (before ++ one k d) ++ es) o
+pub added : (before : Entries) (k : List ℕ) (d : Data) (o : Option (Entries × List Token)) → parse_map (λ es. before ++ es) (parse_map (λ es. (k, d) ∷ es) o) ≡ parse_map (λ es. (before ++ one k d) ++ es) o
 added before k d None = refl
 added before k d (Some p) = ap (λ es. Some (es, p.1)) (sym (append_assoc before (one k d) p.0))
 

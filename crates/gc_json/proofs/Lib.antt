@@ -16,6 +16,7 @@ mod LoadedAgain
 mod ManyItems
 mod Members
 pub mod PartsLoadBack
+mod OnePass
 mod Passing
 pub mod ReadsBack
 pub mod Rest

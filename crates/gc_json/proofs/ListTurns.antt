@@ -24,7 +24,7 @@ use Rattle.gc_json.specs.declared.frame.ListPlace.{ListPlace}
 use Rattle.gc_json.specs.declared.refusal.GraphRefusal.{GraphRefusal}
 use Rattle.gc_json.proofs.ByToken.{items_by_turn}
 use Rattle.gc_json.proofs.EntryTurns.{counted, none_counted}
-use Rattle.gc_json.proofs.Framing.{NoArray, no_array}
+use Rattle.gc_json.proofs.Framing.{NoArray, no_array, next_item}
 use Rattle.gc_json.proofs.Passing.{picked}
 use Rattle.gc_json.proofs.TokenTurns as turns
 use Rattle.gc_json.proofs.TokenTurns.{items_is, items_more, items_end, value_is}
@@ -46,6 +46,24 @@ module _ {Y : Type 0} (s : Y → PropertyGraph) where
   failed_as : (due : Option (Result PropertyGraph GraphRefusal)) (e : Failure GraphRefusal) (r : Result Y (Failure GraphRefusal)) → IsErrAnd r (λ x. x ≡ e) → Fails due e → GivesDue s due r
   failed_as due e (Ok y) is h = absurd is
   failed_as due e (Err x) is h = failed due x (subst (Fails due) (sym is) h)
+
+-- ---- a list whose count is not kept
+
+pub uncounted : (g : PropertyGraph) (due : Option (Result PropertyGraph GraphRefusal)) (n : ℕ) (u : Unit {0}) → GivesDue {Y = ℕ} (λ m. g) due (Ok n) → GivesDue {Y = Unit {0}} (λ v. g) due (Ok u)
+uncounted g None n u h = tt
+uncounted g (Some d) n u h = h
+
+failing : (g : PropertyGraph) (due : Option (Result PropertyGraph GraphRefusal)) (e : Failure GraphRefusal) → GivesDue {Y = ℕ} (λ m. g) due (Err e) → Fails due e
+failing g None (Refused e) h = tt
+failing g None Memory h = tt
+failing g (Some d) (Refused e) h = h
+failing g (Some d) Memory h = tt
+
+pub uncounted_failure : (g : PropertyGraph) (due : Option (Result PropertyGraph GraphRefusal)) (e : Failure GraphRefusal) (r : Result (Unit {0}) (Failure GraphRefusal)) → IsErrAnd r (λ x. x ≡ e) → GivesDue {Y = ℕ} (λ m. g) due (Err e)
+    → GivesDue {Y = Unit {0}} (λ v. g) due r
+uncounted_failure g due e r is h = failed_as (λ v. g) due e r is (failing g due e h)
+
+-- ---- one element after another
 
 module _ (seen : Seen) (kind : Kind) where
   abbrev step : ℕ → PropertyGraph → Data → Result PropertyGraph GraphRefusal
@@ -76,6 +94,13 @@ module _ (seen : Seen) (kind : Kind) where
   next_added depth i j g more ts t r same going added next =
       let read = picked (step i g) (value_data depth ts) (Ok more) r (subst (λ x. parse_map (step i g) (value_data depth x) ≡ Some (Ok more, r)) same added) in
       ap (all_of i g) (items_more depth ts r read.0 going read.1) ∙ one_added i g more read.0 (items_data depth r) read.2 ∙ ap (λ k. all_of k more (items_data depth r)) next
+
+  -- one more element is counted
+  pub next_read : (depth i j : ℕ) (g more : PropertyGraph) (ts t r : List Token) → t ≡ ts → after_end_array ts ≡ None → parse_map (step i g) (value_data depth t) ≡ Some (Ok more, r) → i + 1 ≡ j
+      → parse_map (λ ds. i + items_len ds) (items_data depth ts) ≡ parse_map (λ ds. j + items_len ds) (items_data depth r)
+  next_read depth i j g more ts t r same going added next =
+      let read = picked (step i g) (value_data depth ts) (Ok more) r (subst (λ x. parse_map (step i g) (value_data depth x) ≡ Some (Ok more, r)) same added) in
+      ap (parse_map (λ ds. i + items_len ds)) (items_more depth ts r read.0 going read.1) ∙ next_item i read.0 (items_data depth r) ∙ ap (λ n. parse_map (λ ds. n + items_len ds) (items_data depth r)) next
 
   none_more : (i : ℕ) (g : PropertyGraph) (d : Data) (e : GraphRefusal) (o : Option (Items × List Token)) → step i g d ≡ Err e → IfSome (all_of i g (parse_map (item d) o)) (λ r. r ≡ Err e)
   none_more i g d e None is = tt

@@ -14,6 +14,7 @@ pub mod ListWalks
 pub mod LiteralValues
 pub mod Located
 pub mod Members
+pub mod OnePass
 pub mod PartsSeen
 pub mod PropertyMembers
 pub mod Reading

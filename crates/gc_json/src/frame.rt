@@ -70,7 +70,7 @@ pub(crate) struct Frame {
 
 impl Frame {
     // The frame of an object without members.
-    fn empty() -> Frame
+    pub(crate) fn empty() -> Frame
         ensures { result ≡ frame_of [] }
     {
         Frame {
@@ -134,7 +134,11 @@ impl Frame {
 }
 
 // Whether the next value is the number 1.
-fn is_version_1(alloc: Global, reader: &mut Reader<'_>, depth: usize) -> Result<bool, Unread>
+pub(crate) fn is_version_1(
+    alloc: Global,
+    reader: &mut Reader<'_>,
+    depth: usize,
+) -> Result<bool, Unread>
     ensures value { Takes (λ is. is) (parse_map is_version_1 (value_data depth reader.old)) result reader.new }
     ensures shorter { OnOk result (length reader.new < length reader.old) }
 {

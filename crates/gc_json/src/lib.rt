@@ -20,6 +20,7 @@ mod loading;
 mod member;
 mod nodes;
 mod numbers;
+mod one_pass;
 mod parts;
 mod paths;
 mod properties;

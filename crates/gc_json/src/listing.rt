@@ -1,7 +1,8 @@
 //! A walk over one list of a file: its elements are added one after another, and none is kept.
-ghost use Rattle.std.specs.Prelude.{◌≡◌, ◌<◌, length, Some, OnOk, option_map};
+ghost use Rattle.std.specs.Prelude.{◌≡◌, ◌<◌, length, Some, IfOk, OnOk, option_map};
 ghost use Rattle.json.specs.Json.{parse_map};
 ghost use Rattle.json.specs.Lex.{tokens};
+ghost use Rattle.serde_json.specs.Events.{items_len};
 ghost use Rattle.gc_json.specs.ElementSeen.{element_seen};
 ghost use Rattle.gc_json.specs.Entries.{count_of, last_at};
 ghost use Rattle.gc_json.specs.FileElements.{add_element_of, add_values_of};
@@ -93,28 +94,36 @@ fn add_array(
     if !takes_array(reader) {
         return Ok(());
     }
-    add_elements(names, reader, 125, builder, seen, kind)
+    add_elements(names, reader, 125, builder, seen, kind, usize::MAX)?;
+    Ok(())
 }
 
-// Adds the elements of an array, one after another.
-fn add_elements(
+// Adds the elements of an array, one after another, and tells how many there are. Where there are
+// more than the most that are wanted, it ends as where memory is short.
+pub(crate) fn add_elements(
     names: &mut NamePool,
     reader: &mut Reader<'_>,
     depth: usize,
     builder: &mut GraphBuilder,
     seen: &Coherence,
     kind: Kind,
-) -> Result<(), Failure<GraphRefusal>>
+    most: usize,
+) -> Result<usize, Failure<GraphRefusal>>
     requires { 0 < depth }
-    ensures { GivesDue (λ _. builder.new)
+    ensures added { GivesDue (λ _. builder.new)
         (option_map (λ p. add_elements_of seen.now kind 0 builder.old p.0) (items_data depth reader.old)) result }
+    ensures read { IfOk result (λ count. parse_map items_len (items_data depth reader.old) ≡ Some (count, reader.new)) }
+    ensures shorter { OnOk result (length reader.new < length reader.old) }
 {
     let mut index: usize = 0;
     'items: while !reader.take_end_array() {
+        if index >= most {
+            return Err(Failure::Memory);
+        }
         add_next(names, reader, depth, builder, seen, kind, index)?;
-        index = index.checked_add(1).ok_or(Failure::Memory)?;
+        index += 1;
     }
-    Ok(())
+    Ok(index)
 }
 
 // Adds the element that the next value is, at an index of its list.

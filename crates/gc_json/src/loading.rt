@@ -12,6 +12,7 @@ use crate::fault::Failure;
 use crate::first_pass::frame_of_text;
 use crate::frame::Frame;
 use crate::listing::add_list;
+use crate::one_pass::graph_in_one_pass;
 use crate::refusal::{GraphRefusal, WHOLE};
 use gc_base::NamePool;
 use gc_ppg::{Coherence, Graph, GraphBuilder, Kind};
@@ -19,7 +20,7 @@ use json::Scratch;
 use std::alloc::Global;
 
 /// The most elements that a file may list.
-const MOST_ELEMENTS: usize = 1_000_000;
+pub(crate) const MOST_ELEMENTS: usize = 1_000_000;
 
 /// The graph of a graph file, beside the graphs of the files before it. A file that has none is
 /// refused for the first rule that it breaks: its JSON, its shape, the number of its elements, and
@@ -49,7 +50,7 @@ fn graph_of(
     }
 }
 
-// The graph of a text.
+// The graph of a text. Most files give theirs in one pass; of all others the passes after it tell.
 fn graph_of_text(
     alloc: Global,
     text: &str,
@@ -58,6 +59,9 @@ fn graph_of_text(
     ensures { Gives (λ builder. builder) (text_graph seen.now text.now) result }
 {
     let mut scratch = Scratch::new(alloc);
+    if let Some(builder) = graph_in_one_pass(alloc, text, &mut scratch, seen) {
+        return Ok(builder);
+    }
     let frame = frame_of_text(alloc, text, &mut scratch)?;
     graph_of_frame(alloc, text, &mut scratch, &frame, seen)
 }
