@@ -127,9 +127,9 @@ fn places_left(alloc: Global, nodes: &[Id], hops: &[Hop]) -> Result<Vec<usize>, 
     ensures { IfOk result (λ places. places.items ≡ map (λ h. place_in nodes.now h.from) hops.now) }
 {
     let first = first_of(nodes);
-    let mut places = vec![in alloc; 0usize; hops.len()]?;
-    for i in 0..hops.len() {
-        places[i] = place_near(nodes, first, hops[i].from);
+    let mut places = Vec::with_capacity(alloc, hops.len())?;
+    for hop in hops {
+        places.push(place_near(nodes, first, hop.from))?;
     }
     Ok(places)
 }
@@ -149,9 +149,9 @@ fn places_reached(alloc: Global, nodes: &[Id], hops: &[Hop]) -> Result<Vec<usize
     ensures { IfOk result (λ places. places.items ≡ map (λ h. place_in nodes.now h.to) hops.now) }
 {
     let first = first_of(nodes);
-    let mut places = vec![in alloc; 0usize; hops.len()]?;
-    for i in 0..hops.len() {
-        places[i] = place_near(nodes, first, hops[i].to);
+    let mut places = Vec::with_capacity(alloc, hops.len())?;
+    for hop in hops {
+        places.push(place_near(nodes, first, hop.to))?;
     }
     Ok(places)
 }

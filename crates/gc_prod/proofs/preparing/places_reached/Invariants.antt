@@ -1,9 +1,6 @@
-use Rattle.std.proofs.Common.{◌≡◌, map, take, length}
+use Rattle.std.proofs.Common.{◌≡◌, ◌++◌, drop, map}
 use Rattle.gc_prod.specs.Places.{place_in}
 use Rattle.gc_prod.proofs.preparing.places_reached.Given as goal
 
-abbrev pub invariant-loop-i : goal.invariant-loop-i
-invariant-loop-i l = record {
-  size : length l.places.items ≡ length l.hops;
-  done : take l.i l.places.items ≡ map (λ h. place_in l.nodes h.to) (take l.i l.hops);
-}
+abbrev pub invariant-loop-hop : goal.invariant-loop-hop
+invariant-loop-hop l = l.places.items ++ map (λ h. place_in l.nodes h.to) (drop l.hop-index l.hops) ≡ map (λ h. place_in l.nodes h.to) l.hops
