@@ -3,6 +3,7 @@ pub mod BoundRows
 pub mod ClaimEnds
 pub mod ClaimOrigins
 pub mod ClaimShapes
+pub mod ClaimSteps
 pub mod ClaimWalks
 pub mod ClaimsWhole
 pub mod Distinct

@@ -3,12 +3,12 @@ ghost use Rattle.std.specs.List.{find};
 ghost use Rattle.std.specs.Option.{option_and_then, option_copied};
 ghost use Rattle.gc_build_numbers.specs.Keys.{number_at, which_at};
 ghost use Rattle.gc_build.specs.Makers.{AreEndMakers, IsMaker, maker_of};
-ghost use Rattle.gc_build.specs.Makings.{descriptions_of, identity_at, identity_by, identity_of};
+ghost use Rattle.gc_build.specs.Makings.{descriptions_of, identity_at, identity_by, identity_of, listed_descriptions};
 ghost use Rattle.gc_build_descriptions.specs.Faults.{elements_of};
 ghost use Rattle.gc_build.specs.Walks.{along_graph, read_graph};
 
 use gc_base::{Id, Memory, Sym};
-use gc_build_descriptions::{DescribedList, Description};
+use gc_build_descriptions::{Described, DescribedList, Description};
 use gc_build_numbers::{Element, Numbered, NumberedList, ReadGraphs, Setting};
 use gc_build_recipe::{Grouping, Variable, VariableList};
 use gc_ppg::Graph;
@@ -185,14 +185,11 @@ impl Making<'_> {
         }
     }
 
-    /// The descriptions of a variable's elements, in their order.
-    pub(crate) fn descriptions(&self, var: Sym) -> &[Description]
-        ensures { result.now ≡ descriptions_of self.now.described var }
+    /// A variable with the descriptions of its elements, in their order, if the CONSTRUCT has it.
+    pub(crate) fn described(&self, var: Sym) -> Option<&Described>
+        ensures { option_copied result ≡ find (λ d. d.var.0 == var.0) self.now.described }
     {
-        match self.described.get(var) {
-            None => &[],
-            Some(described) => described.descriptions.as_slice(),
-        }
+        self.described.get(var)
     }
 
     /// The description of the element that the row at a place makes of a variable, if it makes one.
@@ -201,8 +198,15 @@ impl Making<'_> {
     {
         match self.which_at(var, place) {
             None => None,
-            Some(which) => self.descriptions(var).get(which),
+            Some(which) => self.description_of(var, which),
         }
+    }
+
+    // The description of one of a variable's elements, if there is one at that place.
+    fn description_of(&self, var: Sym, which: usize) -> Option<&Description>
+        ensures { option_copied result ≡ slice_get (descriptions_of self.now.described var) which }
+    {
+        description_in(self.described(var), which)
     }
 
     /// The graph in which a variable is read, if it has one.
@@ -225,6 +229,16 @@ impl Making<'_> {
     {
         let setting = self.setting;
         setting.graphs.as_slice().get(number as usize)
+    }
+}
+
+/// The description of the element at a place among those of a variable, if the CONSTRUCT has that.
+pub(crate) fn description_in(described: Option<&Described>, place: usize) -> Option<&Description>
+    ensures { option_copied result ≡ slice_get (listed_descriptions (option_copied described.entry)) place }
+{
+    match described {
+        None => None,
+        Some(described) => described.descriptions.get(place),
     }
 }
 

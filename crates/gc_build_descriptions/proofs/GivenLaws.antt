@@ -1,5 +1,5 @@
 -- What the assignments give to an element is what it is described with.
-use Rattle.std.proofs.Common.{◌≡◌, refl, sym, ap, ◌∙◌, subst, ℕ, ◌==◌, ◌<◌, Bool, true, false, cond, List, [], ◌∷◌, length, get_or, map, fold, Some, slice_get}
+use Rattle.std.proofs.Common.{◌≡◌, refl, sym, ap, ◌∙◌, subst, ℕ, ◌==◌, ◌<◌, Bool, true, false, cond, List, [], ◌∷◌, length, get_or, map, fold, replicate, Some, slice_get, suc, arith}
 use Rattle.std.specs.List.{filter, find}
 use Rattle.std.specs.Option.{unwrap_or, option_map}
 use Rattle.std.proofs.lemmas.Bool.{eqb-true}
@@ -79,3 +79,18 @@ pub described_by : (s : Setting) (r : Recipe) (variables : List Numbered) (v : V
 described_by s r variables v elements place e d said c so are own h i is =
     let givens = map (given s variables) r.assignments in
     described_so s r variables givens v elements place e d refl own h i (is ∙ done_so s r givens v place e said c so are)
+
+-- where all that is done comes to the same, all elements have that description
+all_same : {X Y : Type 0} (f : X → Y) (y : Y) (xs : List X) → ((i : ℕ) (x : X) → i < length xs → x ≡ get_or xs i x → y ≡ f x) → replicate (length xs) y ≡ map f xs
+all_same f y [] same = refl
+all_same f y (x ∷ xs) same = λ j. same 0 x (omega arith) refl j ∷ all_same f y xs (λ i z h e. same (suc i) z (let l : suc i < suc (length xs) = omega (arith, h) in l) e) j
+
+pub all_alike : (s : Setting) (r : Recipe) (variables : List Numbered) (v : Variable) (elements : List Element) (d : Description)
+    (said : Said) (c : Changes)
+    → said ≡ said_of r (map (given s variables) r.assignments) → AreChanges said v.var c
+    → elements ≡ elements_of variables v.var
+    → ((place : ℕ) → (rows : List ℕ) → changed place c (start_of s v.start rows) ≡ d)
+    → replicate (length elements) d ≡ map (described s r v) (elements_of variables v.var)
+all_alike s r variables v elements d said c so are own same =
+    all_same (described s r v) d elements (λ place e h i. described_by s r variables v elements place e d said c so are own h i (sym (same place e.group.rows)))
+    ∙ ap (map (described s r v)) own

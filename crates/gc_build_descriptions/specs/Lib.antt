@@ -1,4 +1,5 @@
 pub mod Aggregates
+pub mod Alike
 pub mod Assigned
 pub mod Described
 pub mod Faults

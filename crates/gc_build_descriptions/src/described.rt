@@ -1,5 +1,6 @@
-use gc_base::{Duplicate, LabelSet, Memory, Properties, Sequence, Sym};
+use gc_base::{LabelSet, Properties, Sym};
 use gc_build_recipe::{ByVariable, OfVariable};
+use std::alloc::Global;
 use std::marker::Model;
 
 /// Labels and properties.
@@ -17,20 +18,6 @@ impl Model for Description {
     ghost view = { λ d. record { labels = d.labels; properties = d.properties } };
 }
 
-impl Description {
-    ghost use Rattle.std.specs.Prelude.{◌≡◌, IfOk};
-
-    /// The same labels and properties.
-    pub(crate) fn copied(&self) -> Result<Description, Memory>
-        ensures { IfOk result (λ copied. copied ≡ self.now) }
-    {
-        Ok(Description {
-            labels: self.labels.copy()?,
-            properties: self.properties.copy()?,
-        })
-    }
-}
-
 /// A variable of a CONSTRUCT, with the descriptions of its elements in their order.
 #[derive(Debug, Drop)]
 pub struct Described {
@@ -46,8 +33,62 @@ impl OfVariable for Described {
     }
 }
 
-/// Descriptions of the elements of a variable.
-pub type DescriptionList = Sequence<Description>;
+/// Descriptions of the elements of a variable. Where all have the same, it is kept once. Contracts see one for each
+/// element.
+#[derive(Debug, Drop)]
+pub struct DescriptionList {
+    // The description of so many elements, where all have the same.
+    alike: Option<Description>,
+    count: usize,
+    each: Vec<Description>,
+}
+
+impl Model for DescriptionList {
+    ghost use Rattle.std.specs.Prelude.{List};
+    ghost use Rattle.gc_values.specs.Descriptions.{Description};
+    ghost use Rattle.gc_build_descriptions.specs.Alike.{one_each};
+
+    ghost Value = { List Description };
+
+    ghost view = { λ l. one_each l.alike l.count l.each.items };
+}
+
+impl DescriptionList {
+    ghost use Rattle.std.specs.Prelude.{◌≡◌, replicate, slice_get};
+    ghost use Rattle.std.specs.Option.{option_copied};
+
+    /// The description of one element, then of the next.
+    pub(crate) fn of_each(each: Vec<Description>) -> DescriptionList
+        ensures { result ≡ each.items }
+    {
+        DescriptionList {
+            alike: None,
+            count: 0,
+            each,
+        }
+    }
+
+    /// The description that so many elements have.
+    pub(crate) fn of_alike(alloc: Global, description: Description, count: usize) -> DescriptionList
+        ensures { result ≡ replicate count description }
+    {
+        DescriptionList {
+            alike: Some(description),
+            count,
+            each: Vec::new(alloc),
+        }
+    }
+
+    /// The description of the element at a place, if there is one.
+    pub fn get(&self, place: usize) -> Option<&Description>
+        ensures { option_copied result ≡ slice_get self.now place }
+    {
+        match &self.alike {
+            None => self.each.as_slice().get(place),
+            Some(description) => (place < self.count).then_some(description),
+        }
+    }
+}
 
 /// Variables with descriptions, in their order.
 pub type DescribedList = ByVariable<Described>;

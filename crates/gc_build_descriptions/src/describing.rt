@@ -13,7 +13,7 @@ use crate::fault::Refusal;
 use crate::givens::{Given, all_given, elements_of};
 use crate::said::{Changes, Said, changes_of, said_by};
 use crate::starts::{blank, start_graph, start_of};
-use gc_base::{Memory, Steps, Sym};
+use gc_base::{Memory, Sequence, Steps, Sym};
 use gc_build_numbers::{Element, Numbering, ReadGraphs, Setting};
 use gc_build_recipe::{Recipe, Variable};
 use gc_ppg::Graph;
@@ -89,16 +89,39 @@ fn descriptions<L: Ledger>(
     requires said { said.now ≡ said_of recipe.now (map (given setting.now numbering.now.variables) recipe.now.assignments) }
     ensures { IfOk result (λ all. all ≡ map (described setting.now recipe.now variable.now) (elements_of numbering.now.variables variable.now.var)) }
 {
-    let mut all = DescriptionList::new(setting.alloc);
+    let changes = changes_of(said, variable.var);
+    match alike(setting, variable.start, changes)? {
+        Some(description) => {
+            let count = elements_of(numbering, variable.var).len();
+            Ok(DescriptionList::of_alike(setting.alloc, description, count))
+        }
+        None => {
+            let each = each_of(setting, reads, recipe, said, numbering, variable, steps)?;
+            Ok(DescriptionList::of_each(each.into_vec()))
+        }
+    }
+}
+
+// The same, where each is made by itself.
+fn each_of<L: Ledger>(
+    setting: &Setting<'_>,
+    reads: &ReadGraphs<'_>,
+    recipe: &Recipe,
+    said: &Said<'_>,
+    numbering: &Numbering,
+    variable: &Variable,
+    steps: &mut Steps<L>,
+) -> Result<Sequence<Description>, Memory>
+    requires reads { reads.now ≡ read_graphs setting.now }
+    requires said { said.now ≡ said_of recipe.now (map (given setting.now numbering.now.variables) recipe.now.assignments) }
+    ensures { IfOk result (λ all. all ≡ map (described setting.now recipe.now variable.now) (elements_of numbering.now.variables variable.now.var)) }
+{
     let elements = elements_of(numbering, variable.var);
     let changes = changes_of(said, variable.var);
     let graph = start_graph(reads, variable.start);
-    let made = alike(setting, variable.start, changes)?;
-    let alike = &made;
+    let mut all = Sequence::from_vec(Vec::with_capacity(setting.alloc, elements.len())?);
     for (place, element) in elements.iter().enumerate() {
-        all.push(described_at(
-            setting, graph, alike, variable, place, element, changes, steps,
-        )?)?;
+        all.push(described_at(setting, graph, variable, place, element, changes, steps)?)?;
     }
     Ok(all)
 }
@@ -122,20 +145,15 @@ fn alike(
 fn described_at<L: Ledger>(
     setting: &Setting<'_>,
     graph: Option<&Graph>,
-    alike: &Option<Description>,
     variable: &Variable,
     place: usize,
     element: &Element,
     changes: Changes<'_>,
     steps: &mut Steps<L>,
 ) -> Result<Description, Memory>
-    requires graph { option_copied graph ≡ option_and_then (own_among setting.now.reads setting.now.graphs) variable.now.start }
-    requires alike { IfSome alike.now (λ d. (place : ℕ) → (rows : List ℕ) → changed place changes (start_of setting.now variable.now.start rows) ≡ d) }
+    requires { option_copied graph ≡ option_and_then (own_among setting.now.reads setting.now.graphs) variable.now.start }
     ensures { IfOk result (λ d. d ≡ changed place changes.entry (start_of setting.now variable.now.start element.now.group.rows)) }
 {
-    if let Some(description) = alike {
-        return description.copied();
-    }
     let rows = element.group.rows.as_slice();
     let start = start_of(setting, graph, variable.start, rows, steps)?;
     changed(setting.alloc, place, changes, start)

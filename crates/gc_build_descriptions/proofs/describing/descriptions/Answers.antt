@@ -1,19 +1,17 @@
-use Rattle.gc_build_descriptions.specs.Described.{described}
-use Rattle.gc_build_descriptions.proofs.AssignedLaws.{map_with}
-use Rattle.gc_build_descriptions.proofs.GivenLaws.{described_by}
+use Rattle.std.proofs.Common.{◌≡◌, ◌∙◌, ℕ, List, IfSome, subst}
+use Rattle.gc_build_descriptions.specs.Described.{start_of}
+use Rattle.gc_build_descriptions.specs.Said.{changed}
+use Rattle.gc_build_descriptions.proofs.GivenLaws.{all_alike}
 use Rattle.gc_build_descriptions.proofs.describing.descriptions.Goals as goal
 
-pub loop-place-preserved : goal.loop-place-preserved
-loop-place-preserved g c =
+pub returns-in-Some : goal.returns-in-Some
+returns-in-Some g c =
     let s = c.args.setting.now in
-    let r = c.args.recipe.now in
     let v = c.args.variable.now in
-    let elements = c.elements_of-elements.result.now in
-    let place = c.loop-place.place in
-    let e = c.index-elements-place.result in
-    let d = c.in_ok-described_at.field-0 in
-    let so =
-    described_by s r c.args.numbering.now.variables v elements place e d c.args.said.now c.changes_of-changes.result
-    c.requires.said c.changes_of-changes.ensures c.elements_of-elements.ensures c.loop-place-test.true c.index-elements-place.is c.in_ok-described_at.ensures in
-    map_with (described s r v) c.loop-place.all c.push.new.self elements place e d
-    c.loop-place-test.true c.index-elements-place.is c.loop-place.invariant so c.in_ok-push.ensures.ok
+    let changes = c.changes_of-changes.result in
+    let d = c.in-Some.description in
+    let same : (place : ℕ) → (rows : List ℕ) → changed place changes (start_of s v.start rows) ≡ d =
+    subst (λ o. IfSome o (λ d. (place : ℕ) → (rows : List ℕ) → changed place changes (start_of s v.start rows) ≡ d)) c.in-Some.is c.in_ok-description.ensures in
+    c.of_alike.ensures
+    ∙ all_alike s c.args.recipe.now c.args.numbering.now.variables v c.elements_of-count.result.now d c.args.said.now changes
+    c.requires.said c.changes_of-changes.ensures c.elements_of-count.ensures same
