@@ -125,15 +125,7 @@ fn claim_one<T: Claim + Drop, L: Ledger>(
         return Ok(());
     };
     if is_claimed(kept, variable.var, own, element) {
-        T::claim(
-            claimed,
-            making,
-            variable,
-            ends,
-            element,
-            description,
-            steps,
-        )?;
+        T::claim(claimed, making, variable, ends, element, description, steps)?;
     }
     Ok(())
 }
